@@ -1,0 +1,4 @@
+pub mod Parts
+pub mod Days
+pub mod PartLaws
+pub mod Tariffs

@@ -1,0 +1,4 @@
+pub mod Plans
+pub mod PlanLaw
+pub mod Layers
+pub mod LayerLaw
