@@ -13,7 +13,7 @@ use lib.Dec.{eqb, ltb}
 use lib.ListN.{getD}
 use Rattle.std.proofs.shelf.Tests.{cases-lt, cases-eq, cases-order, cond-both}
 use Rattle.std.proofs.shelf.Ways.{tells, decides-below-and, decides-ltb, decides-or, decides-eqb}
-use Rattle.keys.specs.Digits.{Digits, Agree, Above}
+use Rattle.keys.specs.Digits.{Agree, Above}
 use Rattle.keys.specs.Bits.{bits, zeros-before-one}
 use Rattle.keys.proofs.Places.{bit-in-byte}
 

@@ -1,5 +1,5 @@
 -- The order of the bits is the order of the bytes.
-use mathlib.Core.Path.{_≡_, refl, sym, _∙_, ap, subst}
+use mathlib.Core.Path.{_≡_, refl, sym, ap, subst}
 use mathlib.Core.List.{List, [], _∷_}
 use mathlib.Core.Logic.{_⊎_, inl, inr, ⊎-elim, _↔_}
 use Prim.Native.Nat.{ℕ, zero, suc, _+_, _*_, _≤_, _<_}
@@ -7,10 +7,11 @@ use native.Mathlib.Omega.{arith}
 use lib.Bits.{xor-comm}
 use lib.ListN.{getD, length}
 use Rattle.std.proofs.shelf.Tests.{cases-order}
-use Rattle.keys.specs.Digits.{Digits, Agree, Above, Below}
-use Rattle.keys.specs.Bits.{bits, zeros-before-one}
+use Rattle.keys.specs.Digits.{Above, Below}
+use Rattle.keys.specs.Bits.{bits}
 use Rattle.keys.specs.Bytes.{Smaller}
-use Rattle.keys.specs.Comparing.{Stands, comparison}
+use Rattle.keys.specs.Comparing.{Compares, One-width, Stands, comparison}
+use Rattle.keys.specs.declared.comparison.Comparison.{Comparison}
 use Rattle.keys.specs.declared.comparison.Comparison.the-variants.{Equal, Greater, Less}
 use Rattle.keys.proofs.Offsets.{not-both, not-itself, compared-equal, compared-greater, compared-less}
 use Rattle.keys.proofs.Differing.{parting, parts-above, parts-within}
@@ -88,6 +89,15 @@ module _ (a b : List ℕ) (fa : (i : ℕ) → getD a i 0 < 256) (fb : (i : ℕ) 
         sym (compared-less (8 * length a + 1) (bits a) (bits b) _ p (omega arith)),
         (u, p, smaller-at a b i h (omega arith) same m),
       )
+
+-- the rest of what a comparison owes
+pub compares : (a b : List ℕ) → ((i : ℕ) → getD a i 0 < 256) → ((i : ℕ) → getD b i 0 < 256) → (c : Comparison) → One-width a b → c ≡ comparison a b → Stands a b c → Compares a b c
+compares a b fa fb c w e s = record { width = w; value = e; equal = same c s; stands = s; bytes = order-of-bytes a b fa fb (w .2) }
+  where
+    same : (c : Comparison) → Stands a b c → (c ≡ Equal) ↔ (a ≡ b)
+    same Equal s = (λ _. s, λ _. refl)
+    same (Greater o) s = (λ e. absurd (let z : _≡_ {A = ℕ} 0 1 = cc in omega arith), λ e. absurd (not-itself (bits a) o (subst (λ x. Above (bits a) (bits x) o) (sym e) (s .1))))
+    same (Less o) s = (λ e. absurd (let z : _≡_ {A = ℕ} 0 1 = cc in omega arith), λ e. absurd (not-itself (bits b) o (subst (λ x. Above (bits b) (bits x) o) e (s .1))))
 
 pub tells-equal : (a b : List ℕ) → a ≡ b → Equal ≡ comparison a b
 tells-equal a b e = sym (compared-equal (8 * length a + 1) (bits a) (bits b) (λ i _. ap (λ x. bits x i) e))

@@ -1,15 +1,12 @@
 -- The laws of offsets, over any ordered digits.
-use mathlib.Core.Path.{_≡_, refl, sym, _∙_, ap}
-use mathlib.Core.Bool.{cond}
-use mathlib.Core.Logic.{_⊎_, inl, inr}
+use mathlib.Core.Path.{_≡_, sym, _∙_}
+use mathlib.Core.Logic.{inl, inr}
 use Prim.Native.Nat.{ℕ, zero, suc, min, _+_, _≤_, _<_}
 use native.Mathlib.Omega.{arith}
-use lib.Dec.{eqb, ltb}
-use Rattle.std.proofs.shelf.Tests.{cases-order, cases-lt, cases-eq}
+use Rattle.std.proofs.shelf.Tests.{cases-order, cases-lt}
 use Rattle.std.proofs.shelf.Ways.{tells}
 use Rattle.keys.specs.Digits.{Digits, Agree, Above, Below, first-gap}
 use Rattle.keys.specs.Comparing.{compared, compared-at}
-use Rattle.keys.specs.declared.comparison.Comparison.{Comparison}
 use Rattle.keys.specs.declared.comparison.Comparison.the-variants.{Equal, Greater, Less}
 
 -- s agrees with b up to o, and a parts from b before that: a parts from s there too
@@ -68,17 +65,17 @@ at-greater o a b h = grind (arith, tells)
 pub at-less : (o : ℕ) (a b : Digits) → a o < b o → compared-at o a b ≡ Less o
 at-less o a b h = grind (arith, tells)
 
-pub at-equal : (o : ℕ) (a b : Digits) → a o ≡ b o → compared-at o a b ≡ Equal
-at-equal o a b h = grind (arith, tells)
+-- a comparison by a gap that is among the places compared
+compared-by : (n : ℕ) (a b : Digits) (o : ℕ) → first-gap n 0 a b ≡ o → o < n → compared n a b ≡ compared-at o a b
+compared-by n a b o e l = rw e (grind (arith, tells))
 
-pub compared-greater : (n : ℕ) (a b : Digits) (o : ℕ) → Above a b o → o ≤ n → compared n a b ≡ Greater o
+pub compared-greater : (n : ℕ) (a b : Digits) (o : ℕ) → Above a b o → o < n → compared n a b ≡ Greater o
 compared-greater n a b o p l =
-    ap (λ z. compared-at z a b) (gap-is n 0 a b o (p .same) (λ e. omega (arith, p .more)) (omega arith) (omega arith)) ∙ at-greater o a b (p .more)
+    compared-by n a b o (gap-is n 0 a b o (p .same) (λ e. omega (arith, p .more)) (omega arith) (omega arith)) l ∙ at-greater o a b (p .more)
 
-pub compared-less : (n : ℕ) (a b : Digits) (o : ℕ) → Above b a o → o ≤ n → compared n a b ≡ Less o
+pub compared-less : (n : ℕ) (a b : Digits) (o : ℕ) → Above b a o → o < n → compared n a b ≡ Less o
 compared-less n a b o p l =
-    ap (λ z. compared-at z a b) (gap-is n 0 a b o (λ i h. sym (p .same i h)) (λ e. omega (arith, p .more)) (omega arith) (omega arith)) ∙ at-less o a b (p .more)
+    compared-by n a b o (gap-is n 0 a b o (λ i h. sym (p .same i h)) (λ e. omega (arith, p .more)) (omega arith) (omega arith)) l ∙ at-less o a b (p .more)
 
-pub compared-equal : (n : ℕ) (a b : Digits) → Agree a b (n + 1) → compared n a b ≡ Equal
-compared-equal n a b p =
-    ap (λ z. compared-at z a b) (gap-none n 0 a b (λ j h l. p j (omega arith)) ∙ omega arith) ∙ at-equal n a b (p n (omega arith))
+pub compared-equal : (n : ℕ) (a b : Digits) → Agree a b n → compared n a b ≡ Equal
+compared-equal n a b p = let e : first-gap n 0 a b ≡ 0 + n = gap-none n 0 a b (λ j h l. p j (omega arith)) in grind (arith, tells)

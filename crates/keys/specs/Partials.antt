@@ -3,6 +3,8 @@ use mathlib.Core.Path.{_≡_}
 use mathlib.Core.List.{List}
 use Prim.Native.Nat.{ℕ, suc, min, _+_, _-_, _*_, _/_, _%_, _^_, _≤_, _<_}
 use lib.ListN.{length}
+use Rattle.std.specs.declared.option.Option.{Option}
+use Rattle.std.specs.declared.option.Option.the-variants.{None, Some}
 use Rattle.keys.specs.Digits.{Digits, worth}
 use Rattle.keys.specs.Bits.{bits}
 use Rattle.keys.specs.declared.partial.PartialKey.{PartialKey}
@@ -24,3 +26,8 @@ Has-partial l key o = (1 ≤ length key) × (length key ≤ 32) × (o ≤ 8 * le
 pub record Keeps (key : List ℕ) (p : PartialKey) : Type 0 where
   pub each : (i : ℕ) → i < p .length → (p .bits / 2 ^ (p .length - suc i)) % 2 ≡ bits key (p .offset + suc i)
   pub only : p .bits < 2 ^ p .length
+
+-- a partial key is given exactly where there is one: it is the one defined, and keeps the law
+abbrev pub Partial-given : (l : ℕ) → List ℕ → (offset : ℕ) → Option PartialKey → Type 0
+Partial-given l key o None = Has-partial l key o → ⊥
+Partial-given l key o (Some p) = Has-partial l key o × (p ≡ partial-of l key o) × Keeps key p

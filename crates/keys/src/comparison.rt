@@ -1,10 +1,5 @@
-ghost use mathlib.Core.Logic.{_↔_};
 ghost use mathlib.Core.Path.{_≡_};
-ghost use Rattle.std.specs.Options.{Cases};
-ghost use Rattle.keys.specs.Bits.{bits};
-ghost use Rattle.keys.specs.Bytes.{Smaller};
-ghost use Rattle.keys.specs.Comparing.{One-width, Stands, comparison, offset-of};
-ghost use Rattle.keys.specs.Digits.{Below};
+ghost use Rattle.keys.specs.Comparing.{Compared, offset-of};
 use crate::key::WIDEST;
 use crate::zeros::leading_zeros;
 
@@ -31,9 +26,7 @@ impl Comparison {
 
 /// Compares a key with another of its width; none where the two are not keys of one width.
 pub fn compare(key: &[u8], other: &[u8]) -> Option<Comparison>
-    ensures defined { λ r. ⌜ Cases r (One-width (now (key .entry)) (now (other .entry)) → ⊥) (λ c. One-width (now (key .entry)) (now (other .entry)) × (c ≡ comparison (now (key .entry)) (now (other .entry)))) ⌝ }
-    ensures law { λ r. ⌜ Cases r (Unit {0}) (λ c. Stands (now (key .entry)) (now (other .entry)) c) ⌝ }
-    ensures bytes { λ _. ⌜ (One-width (now (key .entry)) (now (other .entry)) → Below (bits (now (key .entry))) (bits (now (other .entry))) ↔ Smaller (now (key .entry)) (now (other .entry))) ⌝ }
+    ensures { λ r. ⌜ Compared (now (key .entry)) (now (other .entry)) r ⌝ }
 {
     let width = key.len();
     if width == 0 || width > WIDEST || other.len() != width {

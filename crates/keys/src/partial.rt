@@ -1,6 +1,4 @@
-ghost use mathlib.Core.Path.{_≡_};
-ghost use Rattle.std.specs.Options.{Cases};
-ghost use Rattle.keys.specs.Partials.{Has-partial, Keeps, partial-of};
+ghost use Rattle.keys.specs.Partials.{Partial-given};
 use crate::key::WIDEST;
 use crate::key::bit;
 
@@ -18,8 +16,7 @@ pub struct PartialKey {
 /// The partial key of a key at an offset, of at most `l` bits; none where the key is none, the offset lies past it, or `l`
 /// is above 16.
 pub fn partial_key(key: &[u8], offset: u16, l: u8) -> Option<PartialKey>
-    ensures defined { λ r. ⌜ Cases r (Has-partial l (now (key .entry)) offset → ⊥) (λ p. Has-partial l (now (key .entry)) offset × (p ≡ partial-of l (now (key .entry)) offset)) ⌝ }
-    ensures law { λ r. ⌜ Cases r (Unit {0}) (λ p. Keeps (now (key .entry)) p) ⌝ }
+    ensures { λ r. ⌜ Partial-given l (now (key .entry)) offset r ⌝ }
 {
     let width = key.len();
     if width == 0 || width > WIDEST || l > LONGEST {

@@ -69,14 +69,14 @@ key-match w m n h k = (
 )
 
 -- the key of a value stands as the value does
-key-in-order : {V : Type 0} (size : ℕ) (rank : V → ℕ) (less same : V → V → Type 0) → Ranks size rank less same → (x : V) → In-order size rank less same x (key-of size rank x)
-key-in-order size rank less same r x = record {
+key-in-order : {V : Type 0} (size : ℕ) (rank : V → ℕ) (less : V → V → Type 0) → Ranks size rank less → (x : V) → In-order size rank less x (key-of size rank x)
+key-in-order size rank less r x = record {
   below = λ y. Iff·trans (r .ordered x y) (key-order size (rank x) (rank y) (r .ranked x) (r .ranked y));
   above = λ y. Iff·trans (r .ordered y x) (key-order size (rank y) (rank x) (r .ranked y) (r .ranked x));
   equal = λ y. Iff·trans (r .matched x y) (key-match size (rank x) (rank y) (r .ranked x) (r .ranked y));
 }
 
 -- so what was written does
-pub written-in-order : {V : Type 0} (size : ℕ) (rank : V → ℕ) (less same : V → V → Type 0) → Ranks size rank less same → (x : V) (b b′ : List ℕ) (r : Result (Unit {0}) Refusal) → Written size (rank x) b r b′ → Cases r (λ _. In-order size rank less same x b′) (λ _. Unit {0})
-written-in-order size rank less same l x b b′ (Ok u) w = rw (w .2) (key-in-order size rank less same l x)
-written-in-order size rank less same l x b b′ (Err e) w = tt
+pub written-in-order : {V : Type 0} (size : ℕ) (rank : V → ℕ) (less : V → V → Type 0) → Ranks size rank less → (x : V) (b b′ : List ℕ) (r : Result (Unit {0}) Refusal) → Written size (rank x) b r b′ → Cases r (λ _. In-order size rank less x b′) (λ _. Unit {0})
+written-in-order size rank less l x b b′ (Ok u) w = rw (w .2) (key-in-order size rank less l x)
+written-in-order size rank less l x b b′ (Err e) w = tt

@@ -12,14 +12,18 @@ use Rattle.std.proofs.shelf.Bits.{pow-add}
 use Rattle.std.proofs.shelf.Tests.{cases-lt}
 use Rattle.parts.specs.Parts.{Ranks}
 use Rattle.parts.specs.Days.{day-rank}
+use Rattle.parts.specs.declared.pair.Pair.{Pair}
+
+pub pair-back : {F S : Type 0} (p q : Pair F S) → p .first ≡ q .first → p .second ≡ q .second → p ≡ q
+pair-back p q e d j = record { first = e j; second = d j }
 
 -- a number is its own rank, if the greatest one fits the width
-pub number-ranks : {V : Type 0} (w most : ℕ) (number : V → ℕ) → 1 ≤ w → most < 256 ^ w → ((x : V) → number x ≤ most) → Ranks w number (λ x y. number x < number y) (λ x y. number x ≡ number y)
-number-ranks w most number h l f = record {
+pub number-ranks : {V : Type 0} (w most : ℕ) (number : V → ℕ) → 1 ≤ w → most < 256 ^ w → ((x : V) → number x ≤ most) → ((x y : V) → number x ≡ number y → x ≡ y) → Ranks w number (λ x y. number x < number y)
+number-ranks w most number h l f back = record {
   wide = h;
   ranked = λ x. omega (arith, f x);
   ordered = λ x y. Iff·rfl;
-  matched = λ x y. Iff·rfl;
+  matched = λ x y. (ap number, back x y);
 }
 
 -- days by their ranks
@@ -39,12 +43,12 @@ pub day-ranked : (i : ℤ) → mag i < 2 ^ 31 → day-rank i < 256 ^ 4
 day-ranked (pos a) h = omega arith
 day-ranked (negsuc a) h = omega arith
 
-pub day-ranks : {V : Type 0} (number : V → ℤ) → ((x : V) → mag (number x) < 2 ^ 31) → Ranks 4 (λ x. day-rank (number x)) (λ x y. number x <ℤ number y) (λ x y. number x ≡ number y)
-day-ranks number f = record {
+pub day-ranks : {V : Type 0} (number : V → ℤ) → ((x : V) → mag (number x) < 2 ^ 31) → ((x y : V) → number x ≡ number y → x ≡ y) → Ranks 4 (λ x. day-rank (number x)) (λ x y. number x <ℤ number y)
+day-ranks number f back = record {
   wide = omega arith;
   ranked = λ x. day-ranked (number x) (f x);
   ordered = λ x y. day-ordered (number x) (number y) (f x) (f y);
-  matched = λ x y. (ap day-rank, day-back (number x) (number y) (f x) (f y));
+  matched = λ x y. (ap (λ v. day-rank (number v)), λ e. back x y (day-back (number x) (number y) (f x) (f y) e));
 }
 
 -- two digits in base k, the first weightier
@@ -83,15 +87,15 @@ either-of : {F G X Y : Type 0} → F ↔ X → G ↔ Y → (F ⊎ G) ↔ (X ⊎ 
 either-of h k = (⊎-map (h .0) (k .0), ⊎-map (h .1) (k .1))
 
 -- Two parts make a part, ordered by the first, then the second.
-pub pair-ranks : {P F S : Type 0} (first : P → F) (second : P → S) {w v : ℕ} {r : F → ℕ} {s : S → ℕ} {l m : F → F → Type 0} {k n : S → S → Type 0} → Ranks w r l m → Ranks v s k n →
-    Ranks (w + v) (λ p. r (first p) * 256 ^ v + s (second p)) (λ p q. l (first p) (first q) ⊎ (m (first p) (first q) × k (second p) (second q))) (λ p q. m (first p) (first q) × n (second p) (second q))
-pair-ranks first second {w} {v} {r} {s} f g = record {
+pub pair-ranks : {P F S : Type 0} (first : P → F) (second : P → S) {w v : ℕ} {r : F → ℕ} {s : S → ℕ} {l : F → F → Type 0} {k : S → S → Type 0} → ((p q : P) → first p ≡ first q → second p ≡ second q → p ≡ q) → Ranks w r l → Ranks v s k →
+    Ranks (w + v) (λ p. r (first p) * 256 ^ v + s (second p)) (λ p q. l (first p) (first q) ⊎ ((first p ≡ first q) × k (second p) (second q)))
+pair-ranks first second {w} {v} {r} {s} back f g = record {
   wide = omega (arith, f .wide);
   ranked = λ p. pair-ranked w v (r (first p)) (s (second p)) (f .ranked (first p)) (g .ranked (second p));
   ordered = λ p q.
       Iff·trans (either-of (f .ordered (first p) (first q)) (Iff·and (f .matched (first p) (first q)) (g .ordered (second p) (second q))))
       (digits-less (r (first p)) (r (first q)) (s (second p)) (s (second q)) (256 ^ v) (g .ranked (second p)) (g .ranked (second q)));
   matched = λ p q.
-      Iff·trans (Iff·and (f .matched (first p) (first q)) (g .matched (second p) (second q)))
-      (digits-same (r (first p)) (r (first q)) (s (second p)) (s (second q)) (256 ^ v) (g .ranked (second p)) (g .ranked (second q)));
+      Iff·trans (λ e. (ap first e, ap second e), λ e. back p q (e .0) (e .1)) (Iff·trans (Iff·and (f .matched (first p) (first q)) (g .matched (second p) (second q)))
+      (digits-same (r (first p)) (r (first q)) (s (second p)) (s (second q)) (256 ^ v) (g .ranked (second p)) (g .ranked (second q))));
 }

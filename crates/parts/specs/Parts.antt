@@ -21,11 +21,11 @@ Written size rank b (Ok u) b′ = (size ≤ 32) × (length b ≡ size) × (b′ 
 Written size rank b (Err e) b′ = (e ≡ KeyLength) × (size ≤ 32 → length b ≡ size → ⊥) × (b′ ≡ b)
 
 -- What holds of every part: the rank of a value fits the width, and the ranks have the order of the values.
-pub record Ranks {V : Type 0} (size : ℕ) (rank : V → ℕ) (less same : V → V → Type 0) : Type 0 where
+pub record Ranks {V : Type 0} (size : ℕ) (rank : V → ℕ) (less : V → V → Type 0) : Type 0 where
   pub wide : 1 ≤ size
   pub ranked : (x : V) → rank x < 256 ^ size
   pub ordered : (x y : V) → less x y ↔ (rank x < rank y)
-  pub matched : (x y : V) → same x y ↔ (rank x ≡ rank y)
+  pub matched : (x y : V) → (x ≡ y) ↔ (rank x ≡ rank y)
 
 -- the key of a value
 abbrev pub key-of : {V : Type 0} → (size : ℕ) → (rank : V → ℕ) → V → List ℕ
@@ -33,7 +33,7 @@ key-of size rank x = big-endian size (rank x)
 
 -- The law: the key k stands to the key of every value as x does to that value. Smaller value exactly if smaller key, equal
 -- value exactly if equal key.
-pub record In-order {V : Type 0} (size : ℕ) (rank : V → ℕ) (less same : V → V → Type 0) (x : V) (k : List ℕ) : Type 0 where
+pub record In-order {V : Type 0} (size : ℕ) (rank : V → ℕ) (less : V → V → Type 0) (x : V) (k : List ℕ) : Type 0 where
   pub below : (y : V) → less x y ↔ Smaller k (key-of size rank y)
   pub above : (y : V) → less y x ↔ Smaller (key-of size rank y) k
-  pub equal : (y : V) → same x y ↔ (k ≡ key-of size rank y)
+  pub equal : (y : V) → (x ≡ y) ↔ (k ≡ key-of size rank y)

@@ -1,3 +1,5 @@
+ghost use mathlib.Core.HLevel.{isProp→PathP};
+ghost use native.Mathlib.Bridge.{le-prop};
 ghost use mathlib.Core.Path.{_≡_};
 ghost use Prim.Native.Nat.{_<_, _≤_};
 ghost use lib.Dec.{lit<, lit≤};
@@ -37,9 +39,7 @@ pub impl Part for Class as ClassPart {
 
     ghost less = { λ c d. c .number < d .number };
 
-    ghost same = { λ c d. c .number ≡ d .number };
-
-    ghost lawful = { number-ranks 1 255 (λ c. c .number) (lit≤ tt) (lit< tt) (λ c. c .fits) };
+    ghost lawful = { number-ranks 1 255 (λ c. c .number) (lit≤ tt) (lit< tt) (λ c. c .fits) (λ x y e j. record { number = e j; fits = isProp→PathP (λ k. e k ≤ 255) (λ k. le-prop) (x .fits) (y .fits) j }) };
 
     fn width() -> usize {
         WIDTH

@@ -1,3 +1,5 @@
+ghost use mathlib.Core.HLevel.{isProp→PathP};
+ghost use native.Mathlib.Bridge.{le-prop};
 ghost use mathlib.Core.Path.{_≡_};
 ghost use Prim.Native.Nat.{_<_, _^_};
 ghost use lib.Signed.{_<ℤ_, mag};
@@ -30,7 +32,7 @@ impl Day {
         self.number
     }
 
-    /// Its place among all days, the first at 0: the number and 2^31.
+    /// Its place among all days, the first at 0: the number + 2^31.
     pub fn rank(self) -> u32
         ensures value { λ r. ⌜ r ≡ day-rank (self .number) ⌝ }
         ensures corners { λ _. ⌜ Day-corners ⌝ }
@@ -46,9 +48,7 @@ pub impl Part for Day as DayPart {
 
     ghost less = { λ d e. d .number <ℤ e .number };
 
-    ghost same = { λ d e. d .number ≡ e .number };
-
-    ghost lawful = { day-ranks (λ d. d .number) (λ d. d .fits) };
+    ghost lawful = { day-ranks (λ d. d .number) (λ d. d .fits) (λ x y e j. record { number = e j; fits = isProp→PathP (λ k. mag (e k) < 2 ^ 31) (λ k. le-prop) (x .fits) (y .fits) j }) };
 
     fn width() -> usize {
         WIDTH
@@ -58,8 +58,7 @@ pub impl Part for Day as DayPart {
         if buffer.len() != WIDTH {
             return Err(Refusal::KeyLength);
         }
-        let day = *self;
-        buffer.copy_from_slice(&day.rank().to_be_bytes());
+        buffer.copy_from_slice(&self.rank().to_be_bytes());
         Ok(())
     }
 }

@@ -1,3 +1,5 @@
+ghost use mathlib.Core.HLevel.{isProp→PathP};
+ghost use native.Mathlib.Bridge.{le-prop};
 ghost use mathlib.Core.Path.{_≡_};
 ghost use Prim.Native.Nat.{_<_, _≤_};
 ghost use lib.Dec.{lit<, lit≤};
@@ -44,9 +46,7 @@ pub impl Part for Minute as MinutePart {
 
     ghost less = { λ m n. m .number < n .number };
 
-    ghost same = { λ m n. m .number ≡ n .number };
-
-    ghost lawful = { number-ranks 2 1439 (λ m. m .number) (lit≤ tt) (lit< tt) (λ m. m .fits) };
+    ghost lawful = { number-ranks 2 1439 (λ m. m .number) (lit≤ tt) (lit< tt) (λ m. m .fits) (λ x y e j. record { number = e j; fits = isProp→PathP (λ k. e k ≤ 1439) (λ k. le-prop) (x .fits) (y .fits) j }) };
 
     fn width() -> usize {
         WIDTH

@@ -1,6 +1,7 @@
 ghost use mathlib.Core.Logic.{_⊎_};
+ghost use mathlib.Core.Path.{_≡_};
 ghost use Prim.Native.Nat.{_+_, _*_, _^_};
-ghost use Rattle.parts.specs.PartLaws.{pair-ranks};
+ghost use Rattle.parts.specs.PartLaws.{pair-back, pair-ranks};
 use crate::part::Part;
 use keys::key::WIDEST;
 use store::refusal::Refusal;
@@ -20,11 +21,9 @@ pub impl<A: Part, B: Part> Part for Pair<A, B> as PairPart {
 
     ghost rank = { λ p. A·Part .rank (p .first) * 256 ^ B·Part .size + B·Part .rank (p .second) };
 
-    ghost less = { λ p q. A·Part .less (p .first) (q .first) ⊎ (A·Part .same (p .first) (q .first) × B·Part .less (p .second) (q .second)) };
+    ghost less = { λ p q. A·Part .less (p .first) (q .first) ⊎ ((p .first ≡ q .first) × B·Part .less (p .second) (q .second)) };
 
-    ghost same = { λ p q. A·Part .same (p .first) (q .first) × B·Part .same (p .second) (q .second) };
-
-    ghost lawful = { pair-ranks (λ p. p .first) (λ p. p .second) (A·Part .lawful) (B·Part .lawful) };
+    ghost lawful = { pair-ranks (λ p. p .first) (λ p. p .second) pair-back (A·Part .lawful) (B·Part .lawful) };
 
     fn width() -> usize {
         (A::width() + B::width()).min(TOO_WIDE)

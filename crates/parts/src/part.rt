@@ -12,11 +12,11 @@ pub trait Part {
     // the place of a value among all values
     ghost rank: { Self → ℕ };
 
+    // the order of the values
     ghost less: { Self → Self → Type 0 };
 
-    ghost same: { Self → Self → Type 0 };
-
-    ghost lawful: { Ranks size rank less same };
+    // that ranks fit the width and have that order
+    ghost lawful: { Ranks size rank less };
 
     /// The width in bytes, or 33 where it is above 32.
     fn width() -> usize
@@ -30,7 +30,7 @@ pub trait Part {
 /// Writes the key of a part into a buffer of its width: the keys have the order of the values.
 pub fn write_key<P: Part>(part: &P, buffer: &mut [u8]) -> Result<(), Refusal>
     ensures written { λ r. ⌜ Written (P·Part .size) (P·Part .rank (now (part .entry))) (now (buffer .entry)) r (now (buffer .exit)) ⌝ }
-    ensures law { λ r. ⌜ Cases r (λ _. In-order (P·Part .size) (P·Part .rank) (P·Part .less) (P·Part .same) (now (part .entry)) (now (buffer .exit))) (λ _. Unit {0}) ⌝ }
+    ensures law { λ r. ⌜ Cases r (λ _. In-order (P·Part .size) (P·Part .rank) (P·Part .less) (now (part .entry)) (now (buffer .exit))) (λ _. Unit {0}) ⌝ }
 {
     part.write(buffer)
 }

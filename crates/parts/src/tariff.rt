@@ -31,7 +31,7 @@ pub fn tariff(class: Class, day: Day, minute: Minute) -> TariffKey
 
 /// The tariff key as bytes: the class, the day's rank and the minute, one after the other. Keys have the order of labels.
 pub fn tariff_key(class: Class, day: Day, minute: Minute) -> [u8; TARIFF_WIDTH]
-    ensures bytes { λ r. ⌜ r ≡ tariff-bytes (class .number) (day .number) (minute .number) ⌝ }
+    ensures bytes { λ r. ⌜ r ≡ tariff-bytes class day minute ⌝ }
     ensures order { λ r. ⌜ Tariff-order class day minute r ⌝ }
 {
     let mut key = [0; TARIFF_WIDTH];

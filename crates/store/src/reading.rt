@@ -5,8 +5,10 @@ use crate::refusal::Refusal;
 
 /// A store that keys are read from.
 pub trait ReadingStore {
+    // what the store means
     ghost meaning: { Self → Meaning };
 
+    // and that this is lawful
     ghost lawful: { (s : Self) → Lawful (meaning s) };
 
     /// The bytes of a key.

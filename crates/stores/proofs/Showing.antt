@@ -1,18 +1,19 @@
 -- A fetch through a layer.
 use mathlib.Core.Path.{_≡_, refl, sym, _∙_, ap}
-use mathlib.Core.List.{List, [], _∷_, map}
-use mathlib.Core.Logic.{⊎-elim}
-use Prim.Native.Nat.{ℕ, min, _<_, _≤_}
+use mathlib.Core.List.{List, [], _∷_}
+use mathlib.Core.Logic.{inl, inr, ⊎-elim, _↔_}
+use Prim.Native.Nat.{ℕ, min, _-_, _<_, _≤_}
 use native.Mathlib.Omega.{arith}
-use lib.ListN.{drop, getD, length, take}
+use lib.ListN.{length}
 use Rattle.std.proofs.shelf.Lists.{drop-all, getD-map, length-map, take-all}
 use Rattle.std.proofs.shelf.Tests.{cases-lt}
-use Rattle.std.specs.declared.option.Option.the-variants.{Some}
+use Rattle.std.specs.shelf.Lists.{All}
 use Rattle.std.specs.declared.result.Result.the-variants.{Ok, Err}
+use Rattle.keys.specs.Bytes.{Smaller}
 use Rattle.store.specs.Grounds.{first-ground}
-use Rattle.store.specs.Meaning.{Fetched, Meaning, after-reads, fetch-grounds, key-of}
+use Rattle.store.specs.Meaning.{Fetched, Meaning, fetch-grounds, key-of}
 use Rattle.store.specs.declared.refusal.Refusal.{Refusal}
-use Rattle.stores.specs.Layers.{shown, turned}
+use Rattle.stores.specs.Layers.{inverted, shown, turned}
 
 -- the layer has the grounds of the store below
 pub same-grounds : (f : List ℕ → List ℕ) (m : Meaning) (r n : ℕ) → fetch-grounds (shown f m) r n ≡ fetch-grounds m r n
@@ -40,3 +41,16 @@ turned-within cut k = ⊎-elim
     let e : min cut (length k) ≡ length k = omega arith in
     rw (e, drop-all (length k) k (omega arith), take-all (length k) k (omega arith), drop-all cut k g, take-all cut k g))
     (cases-lt cut (length k))
+
+-- inverted keys of one width have the reverse order
+pub inverted-smaller : (a b : List ℕ) → length a ≡ length b → All (λ x. x < 256) a → All (λ x. x < 256) b → Smaller a b ↔ Smaller (inverted b) (inverted a)
+inverted-smaller [] [] l fa fb = (λ s. s, λ s. s)
+inverted-smaller [] (y ∷ b) l fa fb = absurd (omega arith)
+inverted-smaller (x ∷ a) [] l fa fb = absurd (omega arith)
+inverted-smaller (x ∷ a) (y ∷ b) l fa fb =
+    let h = inverted-smaller a b (omega arith) (fa .1) (fb .1) in
+    let u : x < 256 = fa .0 in
+    let v : y < 256 = fb .0 in (
+      ⊎-elim (λ (m : x < y). inl (omega arith)) (λ (s : (x ≡ y) × Smaller a b). inr (omega (arith, s .0), h .0 (s .1))),
+      ⊎-elim (λ (m : 255 - y < 255 - x). inl (omega arith)) (λ (s : (255 - y ≡ 255 - x) × Smaller (inverted b) (inverted a)). inr (omega (arith, s .0), h .1 (s .1))),
+    )

@@ -1,6 +1,6 @@
 -- A layer is a lawful store: the proofs that the ghost members of maps and layers give.
 use mathlib.Core.Path.{_≡_, _∙_}
-use mathlib.Core.List.{List, map}
+use mathlib.Core.List.{List}
 use Prim.Native.Nat.{ℕ, _-_, _<_}
 use native.Mathlib.Omega.{arith}
 use lib.ListN.{drop, length, take}

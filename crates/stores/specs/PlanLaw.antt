@@ -1,14 +1,14 @@
 -- The plan is a lawful store: the proof that its ghost member `lawful` gives.
-use mathlib.Core.Path.{_≡_, refl, sym, ap, _∙_}
-use mathlib.Core.List.{List, [], _∷_, map}
-use Prim.Native.Nat.{ℕ, _+_, _*_, _/_, _%_, _^_, _<_, _≤_}
+use mathlib.Core.Path.{_≡_, refl}
+use mathlib.Core.List.{[], map}
+use Prim.Native.Nat.{ℕ, _*_, _^_, _<_, _≤_}
 use native.Mathlib.Omega.{arith}
-use lib.ListN.{length, getD, set}
+use lib.ListN.{length, getD}
 use Rattle.std.specs.Iters.{counting}
 use Rattle.std.proofs.shelf.Counted.{length-map-counting, getD-map-counting}
 use Rattle.std.proofs.shelf.Elements.{all-from-getD}
 use Rattle.keys.specs.Bytes.{Key}
-use Rattle.store.specs.Meaning.{Meaning, Lawful}
+use Rattle.store.specs.Meaning.{Lawful}
 use Rattle.stores.specs.Plans.{plan-key, plan-of}
 
 pub length-plan : (n : ℕ) → length (map plan-key (counting 0 n)) ≡ n

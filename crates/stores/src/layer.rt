@@ -8,8 +8,10 @@ use store::refusal::Refusal;
 
 /// A way to show a key: another key of the same width.
 pub trait KeyMap {
+    // how a key is shown
     ghost shows: { Self → List ℕ → List ℕ };
 
+    // that it is shown as a key of its width
     ghost keeps: { (m : Self) → Keeps-keys (shows m) };
 
     /// Puts the key that is shown in the place of the key.
@@ -24,14 +26,16 @@ pub struct Layer<M, S> {
     below: S,
 }
 
-impl<M: KeyMap + Drop, S: ReadingStore> Layer<M, S> {
-    /// The store below by this map.
+impl<M, S> Layer<M, S> {
+    /// The store below, shown by this map.
     pub fn new(map: M, below: S) -> Layer<M, S>
         ensures { λ r. ⌜ (r .map ≡ map) × (r .below ≡ below) ⌝ }
     {
         Layer { map, below }
     }
+}
 
+impl<M: Drop, S> Layer<M, S> {
     /// Takes the layer off.
     pub fn into_below(self) -> S
         ensures { λ r. ⌜ r ≡ self .below ⌝ }

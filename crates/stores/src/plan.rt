@@ -1,5 +1,7 @@
+ghost use lib.ListN.{length};
 ghost use mathlib.Core.Path.{_≡_};
 ghost use Prim.Native.Nat.{_<_, _≤_, _^_};
+ghost use Rattle.store.specs.Meaning.{Fetched};
 ghost use Rattle.stores.specs.PlanLaw.{plan-lawful};
 ghost use Rattle.stores.specs.Plans.{plan-of};
 use store::reading::ReadingStore;
@@ -17,8 +19,10 @@ pub struct Plan {
 // A class in one byte and a minute in two.
 const WIDTH: usize = 3;
 
-// Records of a class.
+// Records of a class, and the minutes between two of them.
 const HOURS: u16 = 24;
+
+const MINUTES: u16 = 60;
 
 impl Plan {
     /// A plan of so many classes, with no key fetched yet.
@@ -34,23 +38,33 @@ pub impl ReadingStore for Plan as PlanReading {
 
     ghost lawful = { λ p. plan-lawful (p .classes) (p .tally) (p .few) (p .wraps) };
 
-    fn width(&self) -> usize {
+    fn width(&self) -> usize
+        ensures { λ r. ⌜ r ≡ plan-of (now (self .entry) .classes) (now (self .entry) .tally) .width ⌝ }
+    {
         WIDTH
     }
 
-    fn held(&self) -> u16 {
+    fn held(&self) -> u16
+        ensures { λ r. ⌜ r ≡ length (plan-of (now (self .entry) .classes) (now (self .entry) .tally) .keys) ⌝ }
+    {
         HOURS * self.classes as u16
     }
 
-    fn capacity(&self) -> u16 {
+    fn capacity(&self) -> u16
+        ensures { λ r. ⌜ r ≡ plan-of (now (self .entry) .classes) (now (self .entry) .tally) .capacity ⌝ }
+    {
         self.held()
     }
 
-    fn tally(&self) -> u32 {
+    fn tally(&self) -> u32
+        ensures { λ r. ⌜ r ≡ plan-of (now (self .entry) .classes) (now (self .entry) .tally) .tally ⌝ }
+    {
         self.tally
     }
 
-    fn fetch(&mut self, number: u16, buffer: &mut [u8]) -> Result<(), Refusal> {
+    fn fetch(&mut self, number: u16, buffer: &mut [u8]) -> Result<(), Refusal>
+        ensures { λ r. ⌜ Fetched (plan-of (now (self .entry) .classes) (now (self .entry) .tally)) number (now (buffer .entry)) r (plan-of (now (self .exit) .classes) (now (self .exit) .tally)) (now (buffer .exit)) (now (self .exit) ≡ now (self .entry)) ⌝ }
+    {
         if buffer.len() != WIDTH {
             return Err(Refusal::KeyLength);
         }
@@ -58,7 +72,7 @@ pub impl ReadingStore for Plan as PlanReading {
             return Err(Refusal::NotHeld);
         }
         buffer[0] = (number / HOURS) as u8;
-        buffer[1..].copy_from_slice(&(number % HOURS * 60).to_be_bytes());
+        buffer[1..].copy_from_slice(&(number % HOURS * MINUTES).to_be_bytes());
         self.tally = self.tally.wrapping_add(1);
         Ok(())
     }

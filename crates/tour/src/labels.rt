@@ -10,7 +10,6 @@ use parts::day::Day;
 use parts::minute::Minute;
 use parts::tariff::TARIFF_WIDTH;
 use parts::tariff::tariff_key;
-use std::alloc::Global;
 use std::io;
 
 // A label's key, and the values that it was made of.
@@ -28,39 +27,49 @@ const LABELS: [(u8, i32, u16); 7] = [
     (3, 0, 0),
     (2, -1, 1380),
     (2, 1, 0),
-    (0, 2147483647, 1439),
+    (0, i32::MAX, 1439),
     (2, 0, 359),
-    (255, -2147483648, 0),
+    (255, i32::MIN, 0),
 ];
 
-fn labels(heap: Global) -> io::Result<Vec<Label>> {
-    let mut labels = Vec::new(heap);
+// The labels with their keys. One whose minute is none is left out, and told.
+fn labels(rt: &LibcRuntime) -> io::Result<Vec<Label>> {
+    let mut labels = Vec::new(rt.alloc());
     for (class, day, minute) in LABELS {
-        if let Ok(moment) = Minute::new(minute) {
-            let key = tariff_key(Class::new(class), Day::new(day), moment);
-            labels.push(Label {
-                key,
-                class,
-                day,
-                minute,
-            })?;
+        match Minute::new(minute) {
+            Ok(moment) => {
+                let key = tariff_key(Class::new(class), Day::new(day), moment);
+                labels.push(Label {
+                    key,
+                    class,
+                    day,
+                    minute,
+                })?;
+            }
+            Err(refusal) => {
+                let ground = refusal.number();
+                println!(rt, "  minute {minute}: refused on ground {ground}")?;
+            }
         }
     }
     Ok(labels)
 }
 
-// A key after the one before it: where they part, and what a node would keep.
-fn print_parting(rt: &LibcRuntime, label: &Label, base: Option<&Label>) -> io::Result<()> {
-    // Over the floor, a key's first bit is the 1 in front.
-    let mut offset = Some(0);
-    if let Some(before) = base {
-        offset = match compare(&label.key, &before.key) {
+// Where a key parts from the one before it: the first key lies over the floor, where its first bit is the 1 in front.
+fn offset_over(label: &Label, base: Option<&Label>) -> Option<u16> {
+    match base {
+        None => Some(0),
+        Some(before) => match compare(&label.key, &before.key) {
             Some(comparison) => comparison.offset(),
             None => None,
-        };
+        },
     }
+}
+
+// A key after the one before it: where they part, and what a node would keep.
+fn print_parting(rt: &LibcRuntime, label: &Label, base: Option<&Label>) -> io::Result<()> {
     let key = Hex(&label.key);
-    let Some(offset) = offset else {
+    let Some(offset) = offset_over(label, base) else {
         return println!(rt, "  {key}: the key before it again");
     };
     let Some(partial) = partial_key(&label.key, offset, LONGEST) else {
@@ -72,8 +81,8 @@ fn print_parting(rt: &LibcRuntime, label: &Label, base: Option<&Label>) -> io::R
 
 /// Labels turned into keys, then sorted.
 pub fn print_labels(rt: &LibcRuntime) -> io::Result<()> {
-    let mut labels = labels(rt.alloc())?;
     println!(rt, "Labels and their keys:")?;
+    let mut labels = labels(rt)?;
     for label in &labels {
         let (class, day, minute) = (label.class, label.day, label.minute);
         let key = Hex(&label.key);

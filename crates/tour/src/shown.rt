@@ -2,14 +2,13 @@ use crate::forms::Hex;
 use crate::forms::HexDisplay;
 use std::io;
 use store::reading::ReadingStore;
-use stores::layer::Layer;
 use stores::layer::LayerReading;
-use stores::newest::Inversion;
 use stores::newest::InversionMap;
+use stores::newest::newest_first;
 use stores::plan::Plan;
 use stores::plan::PlanReading;
-use stores::turn::Turn;
 use stores::turn::TurnMap;
+use stores::turn::turned_at;
 
 const RECORDS: [u16; 3] = [0, 23, 47];
 
@@ -42,10 +41,10 @@ pub fn print_plan(rt: &LibcRuntime) -> io::Result<()> {
     )?;
     print_fetches(rt, &mut plan)?;
     println!(rt, "The same, turned at byte 1 (minute, class):")?;
-    let mut turned = Layer::new(Turn { cut: 1 }, plan);
+    let mut turned = turned_at(1, plan);
     print_fetches(rt, &mut turned)?;
     println!(rt, "The same, newest first over that (every bit inverted):")?;
-    let mut newest = Layer::new(Inversion, turned);
+    let mut newest = newest_first(turned);
     print_fetches(rt, &mut newest)?;
     let tally = newest.into_below().into_below().tally();
     println!(

@@ -19,7 +19,7 @@ use store::refusal::RefusalDebug;
 use store::refusal::RefusalPartialEq;
 
 // From the first day to the last: both ends, and around zero.
-const DAYS: [i32; 5] = [-2147483648, -1, 0, 1, 2147483647];
+const DAYS: [i32; 5] = [i32::MIN, -1, 0, 1, i32::MAX];
 
 fn day_key(number: i32) -> Result<[u8; 4], Refusal> {
     let mut key = [0; 4];
@@ -29,11 +29,11 @@ fn day_key(number: i32) -> Result<[u8; 4], Refusal> {
 
 #[test]
 fn days_around_zero_and_at_both_ends() -> Result<(), Fail> {
-    check_eq(day_key(-2147483648), Ok([0, 0, 0, 0]))?;
+    check_eq(day_key(i32::MIN), Ok([0, 0, 0, 0]))?;
     check_eq(day_key(-1), Ok([127, 255, 255, 255]))?;
     check_eq(day_key(0), Ok([128, 0, 0, 0]))?;
     check_eq(day_key(1), Ok([128, 0, 0, 1]))?;
-    check_eq(day_key(2147483647), Ok([255, 255, 255, 255]))?;
+    check_eq(day_key(i32::MAX), Ok([255, 255, 255, 255]))?;
     for a in DAYS {
         for b in DAYS {
             let told = match compare(&day_key(a)?, &day_key(b)?) {

@@ -5,14 +5,13 @@ use store::reading::ReadingStore;
 use store::refusal::Refusal;
 use store::refusal::RefusalDebug;
 use store::refusal::RefusalPartialEq;
-use stores::layer::Layer;
 use stores::layer::LayerReading;
-use stores::newest::Inversion;
 use stores::newest::InversionMap;
+use stores::newest::newest_first;
 use stores::plan::Plan;
 use stores::plan::PlanReading;
-use stores::turn::Turn;
 use stores::turn::TurnMap;
+use stores::turn::turned_at;
 
 // The key of a record, or the refusal.
 fn fetched<S: ReadingStore>(store: &mut S, number: u16) -> Result<[u8; 3], Refusal> {
@@ -62,7 +61,7 @@ fn refused_fetch_leaves_the_buffer() -> Result<(), Fail> {
 #[test]
 fn cuts_of_0_and_the_width_and_above_it() -> Result<(), Fail> {
     for cut in 0..6usize {
-        let mut turned = Layer::new(Turn { cut }, Plan::new(2));
+        let mut turned = turned_at(cut, Plan::new(2));
         let expected = match cut {
             1 => [5, 100, 1],
             2 => [100, 1, 5],
@@ -77,8 +76,8 @@ fn cuts_of_0_and_the_width_and_above_it() -> Result<(), Fail> {
 
 #[test]
 fn layers_on_layers() -> Result<(), Fail> {
-    let turned = Layer::new(Turn { cut: 1 }, Plan::new(2));
-    let mut newest = Layer::new(Inversion, turned);
+    let turned = turned_at(1, Plan::new(2));
+    let mut newest = newest_first(turned);
     check_eq(newest.width(), 3)?;
     check_eq(newest.capacity(), 48)?;
     check_eq(fetched(&mut newest, 47), Ok([250, 155, 254]))?;
@@ -93,7 +92,7 @@ fn tally_wraps() -> Result<(), Fail> {
     let mut key = [0; 1];
     check_eq(worn.fetch(0, &mut key), Ok(()))?;
     check_eq(worn.tally(), 4_294_967_295)?;
-    let mut inverted = Layer::new(Inversion, worn);
+    let mut inverted = newest_first(worn);
     check_eq(inverted.fetch(0, &mut key), Ok(()))?;
     check_eq(key, [248])?;
     check_eq(inverted.tally(), 0)?;

@@ -1,9 +1,9 @@
-use mathlib.Core.Path.{_≡_, refl, sym, _∙_, ap}
-use Prim.Native.Nat.{suc, _+_, _*_, _<_}
+use mathlib.Core.Path.{_≡_, refl, _∙_, ap}
+use Prim.Native.Nat.{suc, _+_, _<_}
 use native.Mathlib.Omega.{arith}
 use Rattle.keys.specs.Bits.{bits}
 use Rattle.keys.specs.Digits.{worth}
-use Rattle.keys.specs.Partials.{Keeps, partial-of}
+use Rattle.keys.specs.Partials.{partial-of}
 use Rattle.keys.specs.declared.partial.PartialKey.{PartialKey}
 use Rattle.keys.proofs.Keeping.{keeps, worth-fits, worth-more}
 use Rattle.keys.proofs.Places.{bit-small}
@@ -30,4 +30,4 @@ returns c =
     let n : c .loop-i .i ≡ c .min-length .result = omega arith in
     let b : c .loop-i .bits ≡ worth 2 (bits k) (suc o) (c .min-length .result) = c .loop-i .inv ∙ ap (worth 2 (bits k) (suc o)) n in
     let p : _≡_ {A = PartialKey} (record { offset = o; length = c .min-length .result; bits = c .loop-i .bits }) (partial-of (c .args .l) k o) = rw (b, c .min-length .ensures) refl in
-    record { defined = ((omega arith, omega arith, omega arith, omega arith), p); law = rw p (keeps (c .args .l) k o) }
+    ((omega arith, omega arith, omega arith, omega arith), p, rw p (keeps (c .args .l) k o))

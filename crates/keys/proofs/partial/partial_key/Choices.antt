@@ -1,5 +1,5 @@
 use mathlib.Core.Path.{_≡_}
-use Prim.Native.Nat.{suc, _≤_}
+use Prim.Native.Nat.{suc}
 use Rattle.keys.specs.Bits.{bits}
 use Rattle.keys.specs.Digits.{worth}
 use Rattle.keys.proofs.partial.partial_key.Given as given

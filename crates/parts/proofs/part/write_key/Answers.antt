@@ -6,5 +6,5 @@ returns g c =
     let p = g .P·Part in
     record {
       written = c .write .ensures;
-      law = written-in-order (p .size) (p .rank) (p .less) (p .same) (p .lawful) (c .args .part .now) _ _ (c .write .result) (c .write .ensures);
+      law = written-in-order (p .size) (p .rank) (p .less) (p .lawful) (c .args .part .now) _ _ (c .write .result) (c .write .ensures);
     }

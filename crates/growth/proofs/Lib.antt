@@ -1,0 +1,15 @@
+pub mod Following
+pub mod Faithfulness
+pub mod Shaping
+pub mod Ordering
+pub mod Fetching
+pub mod Counting
+pub mod Shifting
+pub mod Framing
+pub mod Linking
+pub mod Sizing
+pub mod Placing
+pub mod Tracing
+pub mod Joining
+pub mod Needing
+pub mod Rooting

@@ -1,0 +1,4 @@
+pub mod Shapes
+pub mod Trees
+pub mod Tables
+pub mod Faith

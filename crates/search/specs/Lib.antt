@@ -1,0 +1,11 @@
+pub mod Parts
+pub mod Sweeping
+pub mod Placing
+pub mod NodeLaw
+pub mod Seek
+pub mod PlainList
+pub mod Walk
+pub mod Names
+pub mod Winner
+pub mod TreeLaw
+pub mod Example
