@@ -410,12 +410,15 @@ module _ {t : List Node} {used : ℕ} {ps : List ℕ} {nd : Node} {level at : �
           subst (λ (u : List Node). Entered t u used ents nexts ps level at (Some used1) (used1 + 1)) (sym e3)
           (lift (set (set t1 at (packed (take 4 X) (take 5 Z))) used1 (packed (drop 5 X) (drop 5 Z))) (Some used1) (used1 + 1) (cut-in-two t used (level - 1) at ps rdy ents nexts t1 y used1 (back (Some y) rises) (room-up room) full′))
 
-    pub at-fresh : {y : ℕ} → r ≡ Some y → used + row ps level (tree-of t level at) .nodes ≤ length t → length (held nd) ≡ 7 → used1 < length t1
+    -- the node that the right half takes is a new one of the table
+    pub at-fresh : {y : ℕ} → r ≡ Some y → used + row ps level (tree-of t level at) .nodes ≤ length t → length (held nd) ≡ 7 → (used ≤ used1) × (used1 < length t1)
     at-fresh {y} e room full =
         let full′ : length (held (getD t at no-node)) ≡ 7 = rw (s .is) at full in
         let bk = back (Some y) e in
         let f = new-in-table t used (level - 1) at ps rdy ents nexts t1 y used1 bk (room-up room) full′ in
-        omega (arith, bk .taken)
+        let k = bk .taken in
+        let b = build-used used ents nexts ps (level - 1) (tree-of t (level - 1) (child t used (level - 1) at ps rdy)) in
+        (omega arith, omega arith)
 
 pub at-empty : (t : List Node) (used : ℕ) (ents nexts : List Entry) (ps : List ℕ) (level at : ℕ) → level ≡ 0 → Ready t used ps level at → Entered t t used ents nexts ps level at (Some 0) used
 at-empty t used ents nexts ps zero at z rdy = record { left = refl; linked = refl; taken = refl; frame = λ p lt h. refl; long = refl; packs = rdy .packs; rest = λ p lt. refl }

@@ -168,8 +168,12 @@ module _ (top : Top) {t t1 : List Node} {ents nexts : List Entry} {ps : List ℕ
   root-stays e =
       holds t t1 top (record { levels = top .levels; root = top .root; used = used1 }) ents nexts ps (rdy .within) (stays-at-root t (top .used) ents nexts ps (top .levels) (top .root) rdy t1 used1 (below None e))
 
-  pub root-fresh : {y : ℕ} → right ≡ Some y → top .used + need ps (top .levels) (tree-at t top) ≤ length t → used1 < length t1
-  root-fresh {y} e room = fresh-in t (top .used) ents nexts ps (top .levels) (top .root) rdy room t1 y used1 (below (Some y) e)
+  -- the node that a new root takes is a new one of the table
+  pub root-fresh : {y : ℕ} → right ≡ Some y → top .used + need ps (top .levels) (tree-at t top) ≤ length t → (top .used ≤ used1) × (used1 < length t1)
+  root-fresh {y} e room = (
+    old-used t (top .used) ents nexts ps (top .levels) (top .root) rdy room t1 y used1 (below (Some y) e),
+    fresh-in t (top .used) ents nexts ps (top .levels) (top .root) rdy room t1 y used1 (below (Some y) e),
+  )
 
   pub root-rises : {y : ℕ} → right ≡ Some y → top .used + need ps (top .levels) (tree-at t top) ≤ length t → (t2 : List Node) → t2 ≡ set t1 used1 (packed (getD ents (top .levels) no-entry ∷ []) (top .root ∷ (y ∷ [])))
       → Holds t t2 top ents nexts ps (record { levels = top .levels + 1; root = used1; used = used1 + 1 })

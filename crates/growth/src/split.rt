@@ -12,12 +12,13 @@ use nodes::table::NO_ENTRY;
 /// The records of a full node.
 pub const FULL: u8 = 7;
 
-// Of a full node's records and one more, the first four remain.
+// Of a full node's records and one more, the first four remain, and the fifth moves up.
 const REMAIN: u8 = 4;
 
-// The fifth moves up, and the last three go right.
+// The last three go right.
 const GO_RIGHT: u8 = 3;
 
+// The place of the first that goes right.
 const RIGHT_FROM: usize = 5;
 
 // A node of `count` entries of `es` from `from` on, and of one link more of `cs`.

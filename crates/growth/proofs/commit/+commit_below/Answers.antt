@@ -71,14 +71,16 @@ put-node-requires-3 t c κs =
     let pos : 0 < c .args .level = omega arith in
     let s = step (c .node-at-n .ensures .value) (c .pre .ready) pos in
     let full : length (held (c .node-at-n .result)) ≡ 7 = omega (arith, c .if-n-lt-FULL .left, c .node-at-n .ensures .few, c .node-at-n .ensures .long) in
-    omega (arith, at-fresh s (c .commit-below-below .ensures) (c .in-Some .is) (c .pre .room) full, c .commit-below-below .last .table .ok .0, c .put-node-2 .ensures .len)
+    let fresh = at-fresh s (c .commit-below-below .ensures) (c .in-Some .is) (c .pre .room) full in
+    omega (arith, c .commit-below-below .last .table .ok .0, c .put-node-2 .ensures .len)
 
 pub add-result : need.add-result
 add-result t c =
     let pos : 0 < c .args .level = omega arith in
     let s = step (c .node-at-n .ensures .value) (c .pre .ready) pos in
     let full : length (held (c .node-at-n .result)) ≡ 7 = omega (arith, c .if-n-lt-FULL .left, c .node-at-n .ensures .few, c .node-at-n .ensures .long) in
-    omega (arith, at-fresh s (c .commit-below-below .ensures) (c .in-Some .is) (c .pre .room) full, c .commit-below-below .ensures .long, c .pre .ready .few)
+    let fresh = at-fresh s (c .commit-below-below .ensures) (c .in-Some .is) (c .pre .room) full in
+    omega (arith, c .commit-below-below .ensures .long, c .pre .ready .few)
 
 pub returns : need.returns
 returns t c =

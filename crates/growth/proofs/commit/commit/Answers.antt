@@ -8,11 +8,13 @@ use Rattle.nodes.specs.declared.node.Node.{Node}
 
 pub put-node-requires : need.put-node-requires
 put-node-requires c κs =
-    omega (arith, root-fresh (c .args .top) (c .pre .ready) (c .commit-below-rise .ensures) (c .in-Some .is) (c .pre .room), c .commit-below-rise .last .table .ok .0)
+    let fresh = root-fresh (c .args .top) (c .pre .ready) (c .commit-below-rise .ensures) (c .in-Some .is) (c .pre .room) in
+    omega (arith, c .commit-below-rise .last .table .ok .0)
 
 pub add-result-in-Some : need.add-result-in-Some
 add-result-in-Some c =
-    omega (arith, root-fresh (c .args .top) (c .pre .ready) (c .commit-below-rise .ensures) (c .in-Some .is) (c .pre .room), c .commit-below-rise .ensures .long, c .pre .ready .few)
+    let fresh = root-fresh (c .args .top) (c .pre .ready) (c .commit-below-rise .ensures) (c .in-Some .is) (c .pre .room) in
+    omega (arith, c .commit-below-rise .ensures .long, c .pre .ready .few)
 
 pub returns-in-None : need.returns-in-None
 returns-in-None c =

@@ -1,0 +1,10 @@
+pub mod Turning
+pub mod Extending
+pub mod Routing
+pub mod Trailing
+pub mod Standing
+pub mod Looking
+pub mod Going
+pub mod Filling
+pub mod Weaving
+pub mod Climbing

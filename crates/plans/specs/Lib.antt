@@ -1,0 +1,4 @@
+pub mod Reads
+pub mod Steps
+pub mod Planning
+pub mod Entries
