@@ -2,7 +2,8 @@
 -- from `specs`.
 use Rattle.std.specs.Prelude.{◌≡◌, ℕ, ◌+◌, ◌*◌, ◌^◌, ◌<◌, ◌≤◌, ◌⊎◌, ◌↔◌, ℤ, pos, negsuc, ◌<ℤ◌}
 use Rattle.std.proofs.Common.{ap, inl, inr, ⊎_elim, mul-le-mul_right, add-mul, arith, ltb→lt, lt→ltb}
-use Rattle.std.proofs.Math.Logic.{⊎_map, Iff·and, Iff·rfl, Iff·trans}
+use Rattle.std.proofs.Math.Logic.{⊎_map}
+use Rattle.std.proofs.Math.Logic.Iff
 use Rattle.std.specs.Int.Signed.{mag}
 use Rattle.std.proofs.lemmas.Nat.{pow-add}
 use Rattle.std.proofs.lemmas.Bool.{cases_lt}
@@ -18,7 +19,7 @@ pub number_ranks : {V : Type 0} (w most : ℕ) (number : V → ℕ) → 1 ≤ w 
 number_ranks w most number h l f back = record {
   wide = h;
   ranked = λ x. omega (arith, f x);
-  ordered = λ x y. Iff·rfl;
+  ordered = λ x y. Iff.rfl;
   matched = λ x y. (ap number, back x y);
 }
 
@@ -89,9 +90,9 @@ pair_ranks first second {w} {v} {r} {s} back f g = record {
   wide = omega (arith, f.wide);
   ranked = λ p. pair_ranked w v (r (first p)) (s (second p)) (f.ranked (first p)) (g.ranked (second p));
   ordered = λ p q.
-      Iff·trans (either_of (f.ordered (first p) (first q)) (Iff·and (f.matched (first p) (first q)) (g.ordered (second p) (second q))))
+      Iff.trans (either_of (f.ordered (first p) (first q)) (Iff.and (f.matched (first p) (first q)) (g.ordered (second p) (second q))))
       (digits_less (r (first p)) (r (first q)) (s (second p)) (s (second q)) (256 ^ v) (g.ranked (second p)) (g.ranked (second q)));
   matched = λ p q.
-      Iff·trans (λ e. (ap first e, ap second e), λ e. back p q e.0 e.1) (Iff·trans (Iff·and (f.matched (first p) (first q)) (g.matched (second p) (second q)))
+      Iff.trans (λ e. (ap first e, ap second e), λ e. back p q e.0 e.1) (Iff.trans (Iff.and (f.matched (first p) (first q)) (g.matched (second p) (second q)))
       (digits_same (r (first p)) (r (first q)) (s (second p)) (s (second q)) (256 ^ v) (g.ranked (second p)) (g.ranked (second q))));
 }

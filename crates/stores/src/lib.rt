@@ -1,4 +1,6 @@
 //! Stores: the plan to read from, the card and the pocket to file in, and layers that show the keys of any store below by a map.
+#![tactic(auto)]
+
 pub mod card;
 pub mod layer;
 pub mod newest;

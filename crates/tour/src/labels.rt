@@ -83,7 +83,7 @@ pub fn print_labels(rt: &HostRuntime) -> io::Result<()> {
         let key = Hex(&label.key);
         println!(rt; "  class {class}, day {day}, minute {minute}: {key}")?;
     }
-    labels.sort();
+    labels.sort()?;
     println!(rt; "The keys sorted, each against the one before it:")?;
     let mut base = None;
     for label in &labels {

@@ -1,5 +1,7 @@
 //! One task from beginning to end, step by step: labels become keys, the keys are sorted and compared, a plan is read
 //! through two layers, and keys are searched in a node.
+#![tactic(auto)]
+
 mod forms;
 mod labels;
 mod node_search;

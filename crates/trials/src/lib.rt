@@ -1,4 +1,6 @@
 //! Tests of the crates below on examples: they prove their crate again, so they live apart.
+#![tactic(auto)]
+
 #[cfg(test)]
 mod filing_tests;
 #[cfg(test)]

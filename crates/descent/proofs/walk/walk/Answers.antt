@@ -9,8 +9,8 @@ loop-h-init c =
     let d = c.args.descent.now in
     climb_start (vec_items c.args.table.now) d.nodes d.places d.bottom c.args.list.now _
 
-pub walk-after-walked-requires : goal.walk-after-walked-requires
-walk-after-walked-requires c =
+pub walk_after-walked-requires : goal.walk_after-walked-requires
+walk_after-walked-requires c =
     let t = vec_items c.args.table.now in
     let d = c.args.descent.now in
     let h = c.loop-h.h in
@@ -21,7 +21,7 @@ walk-after-walked-requires c =
 pub loop-h-preserved : goal.loop-h-preserved
 loop-h-preserved c =
     let d = c.args.descent.now in
-    climb_add (vec_items c.args.table.now) d.nodes d.places d.bottom c.loop-h.h _ _ _ _ _ _ c.loop-h.auto.h c.loop-h.invariant c.walk-after-walked.ensures
+    climb_add (vec_items c.args.table.now) d.nodes d.places d.bottom c.loop-h.h _ _ _ _ _ _ c.loop-h.auto.h c.loop-h.invariant c.walk_after-walked.ensures
 
 pub returns : goal.returns
 returns c s fetch w =

@@ -1,4 +1,4 @@
 use Rattle.growth.proofs.commit.+commit_below.Given as goal
 
-abbrev pub decreases-commit-below : goal.decreases-commit-below
-decreases-commit-below l = l.level
+abbrev pub decreases-commit_below : goal.decreases-commit_below
+decreases-commit_below l = l.level

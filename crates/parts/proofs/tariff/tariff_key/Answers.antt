@@ -32,9 +32,9 @@ trio_same c c' d d' m m' = (
 
 pub returns : goal.returns
 returns c =
-    let key = c.write-key.new.buffer in
+    let key = c.write_key.new.buffer in
     let t = c.tariff.result in
-    let law = done_law _ _ c.write-key.result c.unwrap.result c.unwrap.ensures c.write-key.ensures.law in
+    let law = done_law _ _ c.write_key.result c.unwrap.result c.unwrap.ensures c.write_key.ensures.law in
     let bytes : (z : Pair Class (Pair Day Minute)) → List ℕ = λ z. tariff_bytes z.first z.second.first z.second.second in
     let order : TariffOrder t.first t.second.first t.second.second key = record {
       below = λ c' d' m'. subst (λ k. Before t.first t.second.first t.second.second c' d' m' ↔ Smaller key k) (three c' d' m') (law.below (trio c' d' m'));
@@ -43,7 +43,7 @@ returns c =
     } in
     record {
       bytes =
-          written_done 7 _ (replicate 7 0) key c.write-key.result c.unwrap.result c.unwrap.ensures c.write-key.ensures.written
+          written_done 7 _ (replicate 7 0) key c.write_key.result c.unwrap.result c.unwrap.ensures c.write_key.ensures.written
           ∙ three t.first t.second.first t.second.second
           ∙ ap bytes c.tariff.ensures;
       order = subst (λ (z : Pair Class (Pair Day Minute)). TariffOrder z.first z.second.first z.second.second key) c.tariff.ensures order;

@@ -5,8 +5,8 @@ use Rattle.keys.specs.Comparing.{Stands}
 use Rattle.plans.proofs.Stepping.{gap_same}
 use Rattle.plans.proofs.entry.first_gap.Goals as goal
 
-pub returns-in-default : goal.returns-in-default
-returns-in-default c = absurd (c.in-default.ensures c.requires)
+pub returns-in_default : goal.returns-in_default
+returns-in_default c = absurd (c.in_default.ensures c.requires)
 
 pub returns-in-Equal : goal.returns-in-Equal
 returns-in-Equal c = gap_same (8 * length c.args.key.now) c.args.key.now c.args.other.now (subst (Stands c.args.key.now c.args.other.now) c.in-Equal.is c.in-Some.ensures.stands)

@@ -29,9 +29,9 @@ returns-in-Ok g c =
     let f = c.in-Ok.ensures in
     let other = c.fetch.new.buffer in
     let lo : length other ≡ m.width = omega (arith, c.fetch.auto.buffer, f.0) in
-    let gap = gap_made m c.args.up.number e.number c.first-gap-gap.result c.args.key.now other c.requires.its f.3 c.requires.wide c.first-gap-gap.ensures in
-    let p = entry-made c.args.keep m e.number c.first-gap-gap.result other c.entry-at.result f.3 lo c.entry-at.ensures in
-    nexted_new c.args.keep m c.args.up.number c.args.up.offset c.args.i (held n) e c.entry-at.result (g.S.ReadingStore.meaning c.fetch.new.self)
+    let gap = gap_made m c.args.up.number e.number c.first_gap-gap.result c.args.key.now other c.requires.its f.3 c.requires.wide c.first_gap-gap.ensures in
+    let p = entry-made c.args.keep m e.number c.first_gap-gap.result other c.entry_at.result f.3 lo c.entry_at.ensures in
+    nexted_new c.args.keep m c.args.up.number c.args.up.offset c.args.i (held n) e c.entry_at.result (g.S.ReadingStore.meaning c.fetch.new.self)
     (omega arith) (sym (get_or-take n.count n.entries c.args.i no_entry (omega arith))) c.if-e-up.false f.1 f.2 (p ∙ ap (λ (z : ℕ). made (view_of c.args.keep m) e.number z) gap)
 
 pub returns-in-Err : goal.returns-in-Err

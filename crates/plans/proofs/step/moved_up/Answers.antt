@@ -21,6 +21,6 @@ returns c =
       | then-i w ↦ w.old-is
       | else-i w ↦ w.old-is ∙ sym (set_past n.entries c.args.i c.args.next (omega (arith, w.if-i.false)))
     ] in
-    let w : c.shift-in.new.out ≡ insert (set (held n) c.args.i c.args.next) c.args.i c.args.entry =
-    c.shift-in.ensures ∙ ap (λ (z : List Entry). insert z c.args.i c.args.entry) (old ∙ ap (λ (z : List Entry). set z c.args.i c.args.next) (sym all)) in
-    record { number = ap (λ (z : List Entry). (get_or z 4 no_entry).number) w; offset = c.least-of-offset.ensures ∙ ap (λ (z : List Entry). least (take 5 z)) w }
+    let w : c.shift_in.new.out ≡ insert (set (held n) c.args.i c.args.next) c.args.i c.args.entry =
+    c.shift_in.ensures ∙ ap (λ (z : List Entry). insert z c.args.i c.args.entry) (old ∙ ap (λ (z : List Entry). set z c.args.i c.args.next) (sym all)) in
+    record { number = ap (λ (z : List Entry). (get_or z 4 no_entry).number) w; offset = c.least_of-offset.ensures ∙ ap (λ (z : List Entry). least (take 5 z)) w }

@@ -11,8 +11,8 @@ pub returns-in-Greater : goal.returns-in-Greater
 returns-in-Greater c =
     let p = parts_of c.args.entries.now in
     let n = length c.args.entries.now in
-    let e : Place c.place-above.result c.in-Greater.offset ≡ settled p c.args.high c.args.candidate c.args.comparison =
-    ap (λ q. Place q c.in-Greater.offset) c.place-above.ensures ∙ ap (settled p c.args.high c.args.candidate) (sym c.in-Greater.is) in
+    let e : Place c.place_above.result c.in-Greater.offset ≡ settled p c.args.high c.args.candidate c.args.comparison =
+    ap (λ q. Place q c.in-Greater.offset) c.place_above.ensures ∙ ap (settled p c.args.high c.args.candidate) (sym c.in-Greater.is) in
     record {
       placed = e;
       within = subst (InNode n) (sym e) (settled_within p n c.args.high c.args.candidate c.args.comparison (omega arith) (omega arith));

@@ -8,8 +8,8 @@ use Rattle.search.proofs.Turns.{sweep_end, sweep_greater, sweep_open, sweep_stop
 use Rattle.search.proofs.sweep.sweep.Goals as goal
 use Rattle.search.proofs.sweep.sweep.Goals.{in-Greater, in-Open}
 
-pub overflow-cast-nearest : goal.overflow-cast-nearest
-overflow-cast-nearest c =
+pub overflow_cast-nearest : goal.overflow_cast-nearest
+overflow_cast-nearest c =
     let p = parts_of c.args.entries.now in
     let i = c.loop-i.i in
     let h : c.in-Greater.known ≤ 65535 =

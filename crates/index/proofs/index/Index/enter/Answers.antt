@@ -8,38 +8,38 @@ use Rattle.index.proofs.index.Index.enter.Goals as goal
 use Rattle.index.specs.Entries.{Enters, enter_reads}
 use Rattle.index.specs.OfIndex.{state_of}
 
-pub returns-in-err-own : goal.returns-in-err-own
-returns-in-err-own g c =
+pub returns-in_err-own : goal.returns-in_err-own
+returns-in_err-own g c =
     let m = g.S.ReadingStore.meaning c.args.store.now in
     let law = g.S.ReadingStore.lawful c.args.store.now in
     let s = c.args.self.now in
     let st = state_of s in
     let x = c.args.number in
-    let m' = g.S.ReadingStore.meaning c.own-key.new.store in
-    let p = err_from_is_err_and c.from-residual.result c.from-residual.ensures.1 in
-    let r = c.from-residual.result in
-    let u : Enters m st x r st (s ≡ s) m' = subst (λ z. Enters m st x z st (s ≡ s) m') (sym (p.1 ∙ ap Err p.2)) (unread m law st x s.formed m' c.in-err-own.field-0.0 st (s ≡ s) refl c.in-err-own.ensures) in
+    let m' = g.S.ReadingStore.meaning c.own_key.new.store in
+    let p = err_from_is_err_and c.from_residual.result c.from_residual.ensures.1 in
+    let r = c.from_residual.result in
+    let u : Enters m st x r st (s ≡ s) m' = subst (λ z. Enters m st x z st (s ≡ s) m') (sym (p.1 ∙ ap Err p.2)) (unread m law st x s.formed m' c.in_err-own.field-0.0 st (s ≡ s) refl c.in_err-own.ensures) in
     record {
       any = u;
       law = enters_as_the_list m st x r st (s ≡ s) m' law s.formed (λ e. ap state_of e) u;
       own = enters_own m st x r st (s ≡ s) m' s.formed u;
     }
 
-pub returns-in-err-enter-by-key : goal.returns-in-err-enter-by-key
-returns-in-err-enter-by-key g c =
+pub returns-in_err-enter_by_key : goal.returns-in_err-enter_by_key
+returns-in_err-enter_by_key g c =
     let m = g.S.ReadingStore.meaning c.args.store.now in
     let law = g.S.ReadingStore.lawful c.args.store.now in
     let s = c.args.self.now in
     let st = state_of s in
     let x = c.args.number in
-    let k = c.in-ok-own.ensures in
-    let m1 = g.S.ReadingStore.meaning c.own-key.new.store in
-    let m' = g.S.ReadingStore.meaning c.enter-by-key.new.store in
-    let t = c.enter-by-key.new.self in
+    let k = c.in_ok-own.ensures in
+    let m1 = g.S.ReadingStore.meaning c.own_key.new.store in
+    let m' = g.S.ReadingStore.meaning c.enter_by_key.new.store in
+    let t = c.enter_by_key.new.self in
     let st' = state_of t in
-    let p = err_from_is_err_and c.from-residual-in-err-enter-by-key.result c.from-residual-in-err-enter-by-key.ensures.1 in
-    let r = c.from-residual-in-err-enter-by-key.result in
-    let u : Enters m st x r st' (t ≡ s) m' = subst (λ z. Enters m st x z st' (t ≡ s) m') (sym (p.1 ∙ ap Err p.2)) (refused m st x s.formed k.0 m1 k.3 c.in-err-enter-by-key.field-0.0 st' _ (t ≡ s) (λ e. e) m' c.in-err-enter-by-key.ensures) in
+    let p = err_from_is_err_and c.from_residual-in_err-enter_by_key.result c.from_residual-in_err-enter_by_key.ensures.1 in
+    let r = c.from_residual-in_err-enter_by_key.result in
+    let u : Enters m st x r st' (t ≡ s) m' = subst (λ z. Enters m st x z st' (t ≡ s) m') (sym (p.1 ∙ ap Err p.2)) (refused m st x s.formed k.0 m1 k.3 c.in_err-enter_by_key.field-0.0 st' _ (t ≡ s) (λ e. e) m' c.in_err-enter_by_key.ensures) in
     record {
       any = u;
       law = enters_as_the_list m st x r st' (t ≡ s) m' law s.formed (λ e. ap state_of e) u;
@@ -52,14 +52,14 @@ returns g c =
     let s = c.args.self.now in
     let st = state_of s in
     let x = c.args.number in
-    let k = c.in-ok-own.ensures in
-    let m1 = g.S.ReadingStore.meaning c.own-key.new.store in
-    let m' = g.S.ReadingStore.meaning c.enter-by-key.new.store in
-    let t = c.enter-by-key.new.self in
+    let k = c.in_ok-own.ensures in
+    let m1 = g.S.ReadingStore.meaning c.own_key.new.store in
+    let m' = g.S.ReadingStore.meaning c.enter_by_key.new.store in
+    let t = c.enter_by_key.new.self in
     let st' = state_of t in
-    let h = c.in-ok-enter-by-key.ensures in
+    let h = c.in_ok-enter_by_key.ensures in
     let few : enter_reads m st x ≤ 22 = omega (arith, enter_few m st x s.formed, s.deep) in
-    let n = risen c.tally-before.result c.tally.result (enter_reads m st x) c.tally-before.type-inv (omega arith) (c.tally.ensures ∙ (ap (λ z. z.tally) (rise_is m st x s.formed k.0 m1 k.3 m' ⊥ st' h) ∙ omega (arith, c.tally-before.ensures))) in
+    let n = risen c.tally-before.result c.tally.result (enter_reads m st x) c.tally-before.type_inv (omega arith) (c.tally.ensures ∙ (ap (λ z. z.tally) (rise_is m st x s.formed k.0 m1 k.3 m' ⊥ st' h) ∙ omega (arith, c.tally-before.ensures))) in
     let u = entered m st x s.formed k.0 m1 k.3 _ st' ⊥ (t ≡ s) m' n h in
     record {
       any = u;

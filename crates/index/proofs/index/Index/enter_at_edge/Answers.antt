@@ -7,14 +7,14 @@ use Rattle.index.specs.Adds.{edge}
 use Rattle.index.specs.OfIndex.{state_of}
 use Rattle.index.specs.States.{levels, tree_in}
 
-pub enter-at-place-requires : goal.enter-at-place-requires
-enter-at-place-requires g c =
+pub enter_at_place-requires : goal.enter_at_place-requires
+enter_at_place-requires g c =
     let s = c.args.self.now in
     let st = state_of s in
-    let e = c.right-edge-edge.ensures in
+    let e = c.right_edge-edge.ensures in
     record {
-      path = length-take-le s.top.levels c.right-edge-edge.result.nodes (omega (arith, e.nodes_long, s.deep));
-      placed = length-take-le s.top.levels c.right-edge-edge.result.places (omega (arith, e.places_long, s.deep));
+      path = length-take-le s.top.levels c.right_edge-edge.result.nodes (omega (arith, e.nodes_long, s.deep));
+      placed = length-take-le s.top.levels c.right_edge-edge.result.places (omega (arith, e.places_long, s.deep));
       within = subst (λ (ps : List ℕ). Within ps (levels st) (tree_in st)) (sym e.way) (at_edge_within (edge (levels st) (tree_in st)) (levels st) (tree_in st) (edge_at (levels st) (tree_in st)));
       trail = e.trail;
       own = c.requires.own;

@@ -5,8 +5,8 @@ use Rattle.index.proofs.Sameness.{same_index}
 use Rattle.index.proofs.index.Index.enter_at_place.Goals as goal
 use Rattle.index.specs.OfIndex.{state_of}
 
-pub enter-at-requires : goal.enter-at-requires
-enter-at-requires g c =
+pub enter_at-requires : goal.enter_at-requires
+enter_at-requires g c =
     let s = c.args.self.now in
     record {
       short = omega (arith, c.partial.ensures, s.shape.longest);
@@ -19,8 +19,8 @@ enter-at-requires g c =
       own = c.requires.own;
     }
 
-pub invariant-of-self : goal.invariant-of-self
-invariant-of-self g c =
+pub invariant_of-self : goal.invariant_of-self
+invariant_of-self g c =
     let s = c.args.self.now in
     let w = c.in-Ok.ensures.1.0 in
     let el = c.limit.ensures in
@@ -28,10 +28,10 @@ invariant-of-self g c =
 
 pub returns-in-Ok : goal.returns-in-Ok
 returns-in-Ok g c =
-    grown_there (g.S.ReadingStore.meaning c.args.store.now) (state_of c.args.self.now) c.args.number c.args.offset c.args.places.now (g.S.ReadingStore.meaning c.enter-at.new.store) _ _ c.partial.ensures c.limit.ensures
-    (vec_items c.enter-at.new.table) c.in-Ok.top ⊥ ⊥ c.in-Ok.ensures
+    grown_there (g.S.ReadingStore.meaning c.args.store.now) (state_of c.args.self.now) c.args.number c.args.offset c.args.places.now (g.S.ReadingStore.meaning c.enter_at.new.store) _ _ c.partial.ensures c.limit.ensures
+    (vec_items c.enter_at.new.table) c.in-Ok.top ⊥ ⊥ c.in-Ok.ensures
 
 pub returns-in-Err : goal.returns-in-Err
 returns-in-Err g c =
-    refused_there (g.S.ReadingStore.meaning c.args.store.now) (state_of c.args.self.now) c.args.number c.args.offset c.args.places.now (g.S.ReadingStore.meaning c.enter-at.new.store) _ _ c.partial.ensures c.limit.ensures
-    c.in-Err.refusal (vec_items c.enter-at.new.table) (state_of c.args.self.now) _ _ (λ t. same_index _ c.args.self.now refl t refl) c.in-Err.ensures
+    refused_there (g.S.ReadingStore.meaning c.args.store.now) (state_of c.args.self.now) c.args.number c.args.offset c.args.places.now (g.S.ReadingStore.meaning c.enter_at.new.store) _ _ c.partial.ensures c.limit.ensures
+    c.in-Err.refusal (vec_items c.enter_at.new.table) (state_of c.args.self.now) _ _ (λ t. same_index _ c.args.self.now refl t refl) c.in-Err.ensures

@@ -19,8 +19,8 @@ descend-requires g c =
       room = length-take (length c.args.own.now - 0) (replicate 32 0) ∙ omega (arith, c.requires.own.0, (g.S.ReadingStore.lawful c.args.store.now).widest);
     }
 
-pub enter-at-place-requires : goal.enter-at-place-requires
-enter-at-place-requires g c =
+pub enter_at_place-requires : goal.enter_at_place-requires
+enter_at_place-requires g c =
     let m = g.S.ReadingStore.meaning c.args.store.now in
     let s = c.args.self.now in
     let st = state_of s in
@@ -60,4 +60,4 @@ returns-in-Gap g c =
     at_the_gap m st c.args.number key c.requires.own.1 (g.S.ReadingStore.meaning c.descend.new.store) c.in-Ok.ensures.reads
     c.in-Gap.below c.in-Gap.above (gap_end m st key s.formed d ds c.in-Gap.below c.in-Gap.above c.in-Gap.is)
     d.offset _ ds.offset (places_are m st key s.formed d ds c.in-Gap.below c.in-Gap.above c.in-Gap.is)
-    c.enter-at-place.result (state_of c.enter-at-place.new.self) _ _ (λ e. e ∙ same_index _ s refl refl refl) (g.S.ReadingStore.meaning c.enter-at-place.new.store) c.enter-at-place.ensures
+    c.enter_at_place.result (state_of c.enter_at_place.new.self) _ _ (λ e. e ∙ same_index _ s refl refl refl) (g.S.ReadingStore.meaning c.enter_at_place.new.store) c.enter_at_place.ensures

@@ -6,10 +6,10 @@ use Rattle.index.proofs.index.Index.over.Goals as goal
 use Rattle.nodes.specs.Tables.{cleared, no_node, usable, zero_node}
 use Rattle.nodes.specs.declared.node.Node.{Node}
 
-pub invariant-of-result : goal.invariant-of-result
-invariant-of-result c =
+pub invariant_of-result : goal.invariant_of-result
+invariant_of-result c =
     let t = vec_items c.args.table in
-    let w : c.clear.new.table ≡ cleared t = c.clear.ensures ∙ ap cleared c.as-mut-slice.ensures.value in
+    let w : c.clear.new.table ≡ cleared t = c.clear.ensures ∙ ap cleared c.as_mut_slice.ensures.value in
     let items : vec_items (with_items c.args.table c.clear.new.table) ≡ cleared t =
     with_items_is c.args.table c.clear.new.table (ap length w ∙ (length-cleared t ∙ sym c.args.table.ok.0)) ∙ w in
     let blank : (p : ℕ) → p < usable (vec_items (with_items c.args.table c.clear.new.table)) → get_or (vec_items (with_items c.args.table c.clear.new.table)) p no_node ≡ zero_node =
@@ -19,7 +19,7 @@ invariant-of-result c =
 pub returns : goal.returns
 returns c =
     let t = vec_items c.args.table in
-    let w : c.clear.new.table ≡ cleared t = c.clear.ensures ∙ ap cleared c.as-mut-slice.ensures.value in
+    let w : c.clear.new.table ≡ cleared t = c.clear.ensures ∙ ap cleared c.as_mut_slice.ensures.value in
     record {
       shape = refl;
       table = with_items_is c.args.table c.clear.new.table (ap length w ∙ (length-cleared t ∙ sym c.args.table.ok.0)) ∙ w;

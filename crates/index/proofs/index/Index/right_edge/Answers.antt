@@ -8,13 +8,13 @@ loop-level-init c =
     let s = c.args.self.now in
     skirts_start (vec_items s.table) s.top.used s.top.levels s.top.root _ _ s.deep (readable_by (vec_items s.table) s.top s.room s.packs s.once s.formed) refl refl
 
-pub node-at-n-requires : goal.node-at-n-requires
-node-at-n-requires c =
+pub node_at-n-requires : goal.node_at-n-requires
+node_at-n-requires c =
     let at = skirts_down c.loop-level.invariant c.loop-level-test.true in
     record { within = omega (arith, at_old at, at.safe.fits, c.args.self.now.table.ok.0); packs = at_packs at }
 
 pub loop-level-preserved : goal.loop-level-preserved
-loop-level-preserved c = skirts_on (skirts_down c.loop-level.invariant c.loop-level-test.true) c.node-at-n.result c.node-at-n.ensures.value c.node-at-n.ensures.long
+loop-level-preserved c = skirts_on (skirts_down c.loop-level.invariant c.loop-level-test.true) c.node_at-n.result c.node_at-n.ensures.value c.node_at-n.ensures.long
 
 pub returns : goal.returns
 returns c = skirts_end c.loop-level.invariant (omega arith)

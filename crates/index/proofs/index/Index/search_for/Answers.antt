@@ -28,7 +28,7 @@ returns-in-Ok g c =
     record {
       value = (
         c.in-Ok.ensures.search,
-        reads_risen m m' n c.tally-before.result c.tally.result reads c.tally-before.ensures c.tally.ensures c.tally-before.type-inv (omega arith),
+        reads_risen m m' n c.tally-before.result c.tally.result reads c.tally-before.ensures c.tally.ensures c.tally-before.type_inv (omega arith),
       );
       store = reads;
     }

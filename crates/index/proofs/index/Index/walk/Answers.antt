@@ -14,23 +14,23 @@ walk-walked-requires g c =
     record {
       deep = s.deep;
       readable = readable_by (vec_items s.table) s.top s.room s.packs s.once s.formed;
-      searched = (bits key, (fetching (g.S.ReadingStore.meaning c.args.store.now) key, c.in-ok-searched.ensures.value.0));
+      searched = (bits key, (fetching (g.S.ReadingStore.meaning c.args.store.now) key, c.in_ok-searched.ensures.value.0));
     }
 
-pub returns-in-err-searched : goal.returns-in-err-searched
-returns-in-err-searched g c =
+pub returns-in_err-searched : goal.returns-in_err-searched
+returns-in_err-searched g c =
     let m = g.S.ReadingStore.meaning c.args.store.now in
     let m' = g.S.ReadingStore.meaning c.search_for_key.new.store in
     let st = state_of c.args.self.now in
     let key = c.args.key.now in
     let list = c.args.list.now in
-    let r = c.from-residual-in-err-searched.result in
-    let e = c.in-err-searched.field-0.0 in
-    let q = handed_on r e c.from-residual-in-err-searched.ensures.1 in
-    let any = strolls_missing m st key m' e c.in-err-searched.ensures list r q c.in-ok-admit.ensures in
+    let r = c.from_residual-in_err-searched.result in
+    let e = c.in_err-searched.field-0.0 in
+    let q = handed_on r e c.from_residual-in_err-searched.ensures.1 in
+    let any = strolls_missing m st key m' e c.in_err-searched.ensures list r q c.in_ok-admit.ensures in
     record {
       any = any;
-      law = strolls_as_the_list m m' st key (g.S.ReadingStore.lawful c.args.store.now) (λ i. omega (arith, c.type-inv.key i)) list r list any;
+      law = strolls_as_the_list m m' st key (g.S.ReadingStore.lawful c.args.store.now) (λ i. omega (arith, c.type_inv.key i)) list r list any;
       own = strolls_own m m' st key c.args.self.now.formed list r list any;
     }
 
@@ -42,10 +42,10 @@ returns g c =
     let key = c.args.key.now in
     let list = c.args.list.now in
     let list' = c.walk-walked.new.list in
-    let d = c.in-ok-searched.ensures in
-    let any = strolls_ended m st key m' _ d list list' _ c.in-ok-admit.ensures (c.walk-walked.ensures (bits key) (fetching m key) d.value.0) in
+    let d = c.in_ok-searched.ensures in
+    let any = strolls_ended m st key m' _ d list list' _ c.in_ok-admit.ensures (c.walk-walked.ensures (bits key) (fetching m key) d.value.0) in
     record {
       any = any;
-      law = strolls_as_the_list m m' st key (g.S.ReadingStore.lawful c.args.store.now) (λ i. omega (arith, c.type-inv.key i)) list _ list' any;
+      law = strolls_as_the_list m m' st key (g.S.ReadingStore.lawful c.args.store.now) (λ i. omega (arith, c.type_inv.key i)) list _ list' any;
       own = strolls_own m m' st key c.args.self.now.formed list _ list' any;
     }

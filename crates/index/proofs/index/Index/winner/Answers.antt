@@ -5,20 +5,20 @@ use Rattle.index.proofs.Searching.{handed_on, head_passed, picks_ended, picks_mi
 use Rattle.index.proofs.index.Index.winner.Goals as goal
 use Rattle.index.specs.OfIndex.{state_of}
 
-pub returns-in-err-searched : goal.returns-in-err-searched
-returns-in-err-searched g c =
+pub returns-in_err-searched : goal.returns-in_err-searched
+returns-in_err-searched g c =
     let m = g.S.ReadingStore.meaning c.args.store.now in
     let m' = g.S.ReadingStore.meaning c.search_for_key.new.store in
     let st = state_of c.args.self.now in
     let key = c.args.key.now in
     let head = c.args.head in
-    let r = c.from-residual-in-err-searched.result in
-    let e = c.in-err-searched.field-0.0 in
-    let q = handed_on r e c.from-residual-in-err-searched.ensures.1 in
-    let any = picks_missing m st key m' e c.in-err-searched.ensures head r q (head_passed m st head key c.in-ok-admit.ensures (omega arith)) in
+    let r = c.from_residual-in_err-searched.result in
+    let e = c.in_err-searched.field-0.0 in
+    let q = handed_on r e c.from_residual-in_err-searched.ensures.1 in
+    let any = picks_missing m st key m' e c.in_err-searched.ensures head r q (head_passed m st head key c.in_ok-admit.ensures (omega arith)) in
     record {
       any = any;
-      law = picks_as_the_list m m' st key (g.S.ReadingStore.lawful c.args.store.now) (λ i. omega (arith, c.type-inv.key i)) head r any;
+      law = picks_as_the_list m m' st key (g.S.ReadingStore.lawful c.args.store.now) (λ i. omega (arith, c.type_inv.key i)) head r any;
       own = picks_own m m' st key c.args.self.now.formed head r any;
     }
 
@@ -29,9 +29,9 @@ returns g c =
     let st = state_of c.args.self.now in
     let key = c.args.key.now in
     let head = c.args.head in
-    let any = picks_ended m st key m' _ c.in-ok-searched.ensures head _ (head_passed m st head key c.in-ok-admit.ensures (omega arith)) c.winner-of.ensures in
+    let any = picks_ended m st key m' _ c.in_ok-searched.ensures head _ (head_passed m st head key c.in_ok-admit.ensures (omega arith)) c.winner_of.ensures in
     record {
       any = any;
-      law = picks_as_the_list m m' st key (g.S.ReadingStore.lawful c.args.store.now) (λ i. omega (arith, c.type-inv.key i)) head _ any;
+      law = picks_as_the_list m m' st key (g.S.ReadingStore.lawful c.args.store.now) (λ i. omega (arith, c.type_inv.key i)) head _ any;
       own = picks_own m m' st key c.args.self.now.formed head _ any;
     }

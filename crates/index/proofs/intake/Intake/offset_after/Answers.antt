@@ -15,5 +15,5 @@ pub returns-in-Greater : goal.returns-in-Greater
 returns-in-Greater c =
     let s = c.args.self.now in
     let key = c.args.key.now in
-    told (state_of s.index) (last_key s) key (Greater c.in-Greater.offset) c.if-is-empty.ensures
-    (sym c.in-Greater.is ∙ (c.in-ok-offset.ensures.value ∙ ap (λ (n : ℕ). comparison key (take n s.last)) c.requires.width))
+    told (state_of s.index) (last_key s) key (Greater c.in-Greater.offset) c.if-is_empty.ensures
+    (sym c.in-Greater.is ∙ (c.in_ok-offset.ensures.value ∙ ap (λ (n : ℕ). comparison key (take n s.last)) c.requires.width))

@@ -7,4 +7,4 @@ loop-last-preserved c =
     hidden_on c.in-Some.before.now c.loop-last.left.now c.in-Some.last.now c.loop-last.key c.hide.new.key c.in-Some.ensures.cases.0 c.hide.ensures ∙ c.loop-last.invariant
 
 pub returns : goal.returns
-returns c = sym (none_hidden c.loop-last.left.now c.loop-last.key c.in-default.ensures.cases) ∙ c.loop-last.invariant
+returns c = sym (none_hidden c.loop-last.left.now c.loop-last.key c.in_default.ensures.cases) ∙ c.loop-last.invariant

@@ -15,7 +15,7 @@ returns g c =
     let l : length buffer ≡ w + b.size = omega (arith, c.width.ensures) in
     let m = a.rank c.args.self.now.first in
     let n = b.rank c.args.self.now.second in
-    let e : x ≡ big_endian a.size m = c.in-ok-write.ensures.2 in
+    let e : x ≡ big_endian a.size m = c.in_ok-write.ensures.2 in
     let lx : length x ≡ w = ap length e ∙ length_big_endian a.size m ∙ omega arith in
     pair_written a.size b.size m n buffer _ y _ c.write-2.result le (omega arith) (b.lawful.ranked c.args.self.now.second)
     (length_rest w b.size (w - 0) x buffer lx (omega arith) l)

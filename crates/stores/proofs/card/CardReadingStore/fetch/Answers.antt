@@ -5,8 +5,8 @@ use Rattle.stores.proofs.card.CardReadingStore.fetch.Goals as goal
 pub returns-then-number-self : goal.returns-then-number-self
 returns-then-number-self c = search (rules, length_keys)
 
-pub slice-bounds-copy-from-slice-end : goal.slice-bounds-copy-from-slice-end
-slice-bounds-copy-from-slice-end c = search (rules, ends_within)
+pub slice_bounds-copy_from_slice-end : goal.slice_bounds-copy_from_slice-end
+slice_bounds-copy_from_slice-end c = search (rules, ends_within)
 
 pub returns : goal.returns
 returns c = search (rules, length_keys, getD_keys)

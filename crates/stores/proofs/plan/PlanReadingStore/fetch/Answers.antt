@@ -3,8 +3,8 @@ use Rattle.stores.specs.PlanLaw.{length_plan, getD_plan}
 use Rattle.stores.proofs.Laying.{laid}
 use Rattle.stores.proofs.plan.PlanReadingStore.fetch.Goals as goal
 
-pub overflow-cast-buffer : goal.overflow-cast-buffer
-overflow-cast-buffer c = omega (arith, c.held.ensures, length_plan (24 * c.args.self.now.classes))
+pub overflow_cast-buffer : goal.overflow_cast-buffer
+overflow_cast-buffer c = omega (arith, c.held.ensures, length_plan (24 * c.args.self.now.classes))
 
 pub returns : goal.returns
 returns c =
@@ -15,5 +15,5 @@ returns c =
       omega arith,
       omega (arith, length_plan n),
       refl,
-      laid c.args.buffer.now _ (r / 24) _ _ (omega arith) (c.copy-from-slice.ensures.after ∙ c.to-be-bytes.ensures) ∙ rw b refl ∙ sym (getD_plan n r h),
+      laid c.args.buffer.now _ (r / 24) _ _ (omega arith) (c.copy_from_slice.ensures.after ∙ c.to_be_bytes.ensures) ∙ rw b refl ∙ sym (getD_plan n r h),
     )
