@@ -2,8 +2,8 @@
 //! after the other; and a seal, which makes of a store that only reads one that is full.
 #![tactic(auto)]
 
-pub mod layer;
-pub mod newest;
-pub mod sealed;
-pub mod turn;
-pub mod views;
+mod layer;
+mod newest;
+mod sealed;
+mod turn;
+mod views;

@@ -2,8 +2,6 @@
 #![tactic(auto)]
 
 #[cfg(test)]
-mod filing_tests;
-#[cfg(test)]
 mod keys_tests;
 #[cfg(test)]
 mod parts_tests;

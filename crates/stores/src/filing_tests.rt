@@ -1,13 +1,10 @@
+use crate::card::Card;
+use crate::pocket::{Pocket, PocketError};
 use std::alloc::{AllocError, Global};
 use std::test::Fail;
 use store::filing::FilingStore;
 use store::reading::ReadingStore;
 use store::refusal::Refusal;
-use stores::card::Card;
-use stores::layer::Layer;
-use stores::newest::Inversion;
-use stores::pocket::{Pocket, PocketError};
-use stores::turn::Turn;
 
 // So many bytes of 9.
 fn nines(heap: Global, length: usize) -> Result<Vec<u8>, AllocError> {
@@ -41,12 +38,12 @@ fn widths_of_a_card(rt: HostRuntime) -> Result<(), Fail> {
                 assert_eq!(rt; card.width(), width);
                 assert_eq!(rt; card.held(), 0);
                 assert_eq!(rt; card.tally(), 0);
-                assert_eq!(rt; card.into_bytes().as_slice(), &[9; 64]);
+                assert_eq!(rt; card.into_bytes().as_slice(), [9; 64].as_slice());
             }
             Err(unmade) => {
                 assert!(rt; width == 0 || width == 33);
                 assert_eq!(rt; unmade.refusal, Refusal::KeyWidth);
-                assert_eq!(rt; unmade.bytes.as_slice(), &[9; 64], "handed back");
+                assert_eq!(rt; unmade.bytes.as_slice(), [9; 64].as_slice(), "handed back");
             }
         }
     }
@@ -75,7 +72,7 @@ fn card_filled_up(rt: HostRuntime) -> Result<(), Fail> {
     assert_eq!(rt; card.tally(), 1);
     assert_eq!(rt;
         card.into_bytes().as_slice(),
-        &[1, 2, 3, 255, 0, 255, 9, 9],
+        [1, 2, 3, 255, 0, 255, 9, 9].as_slice(),
         "what no key was filed over is untouched"
     );
     Ok(())
@@ -121,51 +118,5 @@ fn pocket_of_64(rt: HostRuntime) -> Result<(), Fail> {
     assert_eq!(rt; pocket.fetch(64, &mut key), Err(Refusal::NotHeld));
     assert_eq!(rt; key, [5; 32]);
     assert_eq!(rt; pocket.tally(), 64);
-    Ok(())
-}
-
-#[test]
-fn filed_through_both_layers(rt: HostRuntime) -> Result<(), Fail> {
-    let card = Card::new(3, nines(rt.alloc(), 9)?)?;
-    let mut newest = Layer::new(Inversion, Layer::new(Turn { cut: 1 }, card));
-    assert_eq!(rt; newest.append(&[1, 2, 3]), Ok(0));
-    assert_eq!(rt; newest.append(&[1, 2]), Err(Refusal::KeyLength));
-    assert_eq!(rt; newest.append(&[0, 255, 128]), Ok(1));
-    let mut key = [0; 3];
-    assert_eq!(rt; newest.fetch(0, &mut key), Ok(()));
-    assert_eq!(rt; key, [1, 2, 3]);
-    assert_eq!(rt; newest.fetch(1, &mut key), Ok(()));
-    assert_eq!(rt; key, [0, 255, 128]);
-    assert_eq!(rt; newest.append(&[4, 5, 6]), Ok(2));
-    assert_eq!(rt; newest.append(&[4, 5, 6]), Err(Refusal::StoreFull));
-    assert_eq!(rt; newest.held(), 3);
-    assert_eq!(rt; newest.tally(), 2);
-    let bytes = newest.into_below().into_below().into_bytes();
-    assert_eq!(rt;
-        bytes.as_slice(),
-        &[252, 254, 253, 127, 255, 0, 249, 251, 250]
-    );
-    Ok(())
-}
-
-#[test]
-fn cuts_of_0_and_the_width_and_above_it_undone(rt: HostRuntime) -> Result<(), Fail> {
-    for cut in 0..6usize {
-        let pocket = Pocket::new(rt.alloc(), 3)?;
-        let mut turned = Layer::new(Turn { cut }, Layer::new(Inversion, pocket));
-        assert_eq!(rt; turned.append(&[1, 2, 3]), Ok(0));
-        let mut key = [0; 3];
-        assert_eq!(rt; turned.fetch(0, &mut key), Ok(()));
-        assert_eq!(rt; key, [1, 2, 3]);
-        let mut below = turned.into_below().into_below();
-        assert_eq!(rt; below.fetch(0, &mut key), Ok(()));
-        let expected = match cut {
-            1 => [252, 254, 253],
-            2 => [253, 252, 254],
-            _ => [254, 253, 252],
-        };
-        assert_eq!(rt; key, expected);
-        assert_eq!(rt; below.tally(), 2);
-    }
     Ok(())
 }
