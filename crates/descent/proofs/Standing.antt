@@ -1,5 +1,5 @@
 -- From its bottom up, the nodes of a course can be read.
-use Rattle.std.proofs.Common.{◌≡◌, ℕ, zero, suc, ◌+◌, ◌<◌, ◌≤◌, List, [], ◌∷◌, ◌++◌, map, length, get_or, replicate, None, Ok, Err, Option, Result, sym, refl, ◌∙◌, subst, inl, inr, arith}
+use Rattle.std.proofs.Common.{◌≡◌, ℕ, zero, suc, ◌<◌, ◌≤◌, List, [], ◌∷◌, ◌++◌, map, length, get_or, replicate, None, Ok, Err, Option, Result, sym, refl, ◌∙◌, subst, inl, inr, arith}
 use Rattle.std.proofs.lemmas.Bool.{cases_lt}
 use Rattle.descent.proofs.Extending.{long, push_alike, push_top, zeros_top}
 use Rattle.descent.proofs.Routing.{turn_end}

@@ -1,6 +1,6 @@
 -- Bits of a key that lie next to each other, as a number.
-use Rattle.std.proofs.Common.{◌≡◌, ℕ, zero, suc, ◌+◌, ◌-◌, ◌*◌, ◌/◌, ◌%◌, ◌^◌, ◌<◌, ◌≤◌, List, get_or, sym, refl, ap, ◌∙◌, pow-suc, arith}
-use Rattle.std.proofs.lemmas.Nat.{mod_low, pow-add, shr_high}
+use Rattle.std.proofs.Common.{◌≡◌, ℕ, zero, suc, ◌+◌, ◌-◌, ◌*◌, ◌/◌, ◌%◌, ◌^◌, ◌<◌, ◌≤◌, List, get_or, sym, ap, ◌∙◌, pow-suc, arith}
+use Rattle.std.proofs.lemmas.Nat.{mod_low, shr_high}
 use Rattle.keys.specs.Digits.{Digits, worth}
 use Rattle.keys.specs.Bits.{bits}
 use Rattle.keys.proofs.Differing.{halves}

@@ -1,5 +1,5 @@
 -- The offset of a known place lies in the search key: past the key every bit is 0, and no kept bit is smaller.
-use Rattle.std.proofs.Common.{ℕ, zero, suc, ◌-◌, ◌*◌, ◌<◌, ◌≤◌, ltb, List, [], ◌∷◌, length, inl, inr, arith}
+use Rattle.std.proofs.Common.{ℕ, zero, suc, ◌*◌, ◌<◌, ◌≤◌, ltb, List, [], ◌∷◌, length, inl, inr, arith}
 use Rattle.std.proofs.lemmas.Bool.{cases_lt, cond_both, ltb-true}
 use Rattle.keys.proofs.Places.{bit_past}
 use Rattle.keys.specs.Bits.{bits}

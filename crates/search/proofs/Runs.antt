@@ -6,7 +6,7 @@ use Rattle.std.proofs.lemmas.Nat.{field_of, mod_below, mod-pow-add, shr-shr}
 use Rattle.std.proofs.lemmas.Bool.{cases_lt}
 use Rattle.keys.specs.Bits.{zeros_before_one}
 use Rattle.keys.specs.Digits.{Digits, worth}
-use Rattle.keys.proofs.Differing.{more_top, other_top, parting, parts_within, same_top, top}
+use Rattle.keys.proofs.Differing.{more_top, other_top, parting, parts_within, same_top}
 use Rattle.keys.proofs.Keeping.{worth_bit, worth_small}
 use Rattle.keys.proofs.Windows.{worth_first}
 use Rattle.search.specs.Parts.{low_bits}

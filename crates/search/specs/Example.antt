@@ -1,6 +1,5 @@
 -- A tree of eight records in three nodes over a store of keys of one byte: the laws of the search speak of something.
 use Rattle.std.specs.Prelude.{ℕ, List, [], ◌∷◌}
-use Rattle.keys.specs.Bits.{bits}
 use Rattle.keys.specs.Bytes.{Key}
 use Rattle.nodes.specs.declared.node.Entry.{Entry}
 use Rattle.nodes.specs.Trees.{Tree}

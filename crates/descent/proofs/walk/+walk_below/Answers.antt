@@ -1,4 +1,4 @@
-use Rattle.std.proofs.Common.{◌≡◌, ◌-◌, ◌<◌, vec_items, refl, arith}
+use Rattle.std.proofs.Common.{◌≡◌, ◌<◌, vec_items, refl, arith}
 use Rattle.descent.proofs.Filling.{add_full}
 use Rattle.descent.proofs.Weaving.{at_clean, at_down, at_kid, at_within, walk_empty, walk_more, walk_whole}
 use Rattle.nodes.specs.Tables.{tree_of}
