@@ -1,7 +1,7 @@
 -- A search that ends in a gap took the route to the place of its key.
 use Rattle.std.proofs.Common.{◌≡◌, ℕ, zero, suc, ◌+◌, ◌<◌, ◌≤◌, List, [], ◌∷◌, ◌++◌, map, length, get_or, Some, None, Ok, Err, Option, Result, sym, refl, ap, ◌∙◌, subst, arith}
 use Rattle.std.proofs.lemmas.List.{get_or-map, length-map}
-use Rattle.std.specs.List.{AllByRecursion as All}
+use Rattle.std.specs.List.{AllByRecursion}
 use Rattle.descent.proofs.Extending.{long, push_alike, push_top, route_alike, within_alike}
 use Rattle.descent.proofs.Turning.{InTurn, TurnsRight, ended, seek-turn, turn_right, turn_within}
 use Rattle.descent.specs.Course.{course, course_on, turn}
@@ -53,10 +53,10 @@ turn_end s fetch l t b o a = ap (λ x. x.end) (sym (seek-turn s fetch l t b o a)
 module _ (v : View) (N : ℕ) (s : Digits) (fetch : ℕ → Option Comparison) (tell : ℕ → Comparison) (small : (r j : ℕ) → v.key r j ≤ 1) (told : (r : ℕ) → Tells N s (v.key r) (tell r)) where
   abbrev Routes : ℕ → Type 0
   Routes l = (t : Tree l) (base : Digits) (c : Ceiling) (b : Option ℕ) (o : ℕ) (a : Option ℕ) (below : Option Neighbour) (above : Option ℕ) →
-      Faithful v l base c t → All (λ r. fetch r ≡ Some (tell r)) (records l t) → Above s base o → Under c s → (seek s fetch l t b o a).end ≡ gap below above →
+      Faithful v l base c t → AllByRecursion (λ r. fetch r ≡ Some (tell r)) (records l t) → Above s base o → Under c s → (seek s fetch l t b o a).end ≡ gap below above →
       Route v l base c t (course s fetch l t o).places s (course s fetch l t o).offset
 
-  module _ (l : ℕ) (ih : Routes l) (t : Tree (suc l)) (base : Digits) (c : Ceiling) (f : Faithful v (suc l) base c t) (hand : All (λ r. fetch r ≡ Some (tell r)) (records (suc l) t)) where
+  module _ (l : ℕ) (ih : Routes l) (t : Tree (suc l)) (base : Digits) (c : Ceiling) (f : Faithful v (suc l) base c t) (hand : AllByRecursion (λ r. fetch r ≡ Some (tell r)) (records (suc l) t)) where
     abbrev es : List Entry
     es = t.entries
 
@@ -80,7 +80,7 @@ module _ (v : View) (N : ℕ) (s : Digits) (fetch : ℕ → Option Comparison) (
         let ps = k.places ++ (q ∷ []) in
         let le : q ≤ length es = p.within in
         let lk : q < length t.kids = omega (arith, many, length-map t.kids (records l)) in
-        let kh : All (λ r. fetch r ≡ Some (tell r)) (records l kid) = subst (All (λ r. fetch r ≡ Some (tell r))) (get_or-map (records l) t.kids q (bare l) [] lk) (woven_kid (λ r. fetch r ≡ Some (tell r)) q es fs many le hand) in
+        let kh : AllByRecursion (λ r. fetch r ≡ Some (tell r)) (records l kid) = subst (AllByRecursion (λ r. fetch r ≡ Some (tell r))) (get_or-map (records l) t.kids q (bare l) [] lk) (woven_kid (λ r. fetch r ≡ Some (tell r)) q es fs many le hand) in
         let r : Route v l (base_at v base es q) (ceiling_at v c es q) kid k.places s k.offset = ih kid (base_at v base es q) (ceiling_at v c es q) (under_at q b es) d (over_at q es a) below above
         (strung_at v (Faithful v l) (bare l) base c es t.kids f q le) kh (subst (λ z. Above s z d) (base_is v base es q le) p.under) (ceiling_is v base c es q s le w p.over) eq in
         let n = (long s fetch l kid d).1 in

@@ -1,6 +1,6 @@
 -- What holds of growth.
 use Rattle.std.specs.Prelude.{◌≡◌, ℕ, suc, ◌+◌, ◌*◌, ◌^◌, ◌≤◌, true, List, length, Option}
-use Rattle.std.specs.List.{ContainsAt as Has, AllByRecursion as All}
+use Rattle.std.specs.List.{ContainsAt as Has, AllByRecursion}
 use Rattle.growth.specs.Commits.{After, Entered, Ready, stands, tree_at}
 use Rattle.growth.specs.Growth.{Whole, entered, grow, need}
 use Rattle.growth.specs.Orders.{Added, placed}
@@ -32,7 +32,7 @@ pub record LawfulEntry (v : View) (used x o : ℕ) (ps : List ℕ) (l : ℕ) (t 
   pub adds : Added x (records l t) (records w.levels w.tree)
   pub taken : w.used ≡ used + need ps l t
   pub reads : length w.fetched ≤ 2 * l
-  pub known : All (Has (records l t)) w.fetched
+  pub known : AllByRecursion (Has (records l t)) w.fetched
 
 abbrev pub EntryLawful : Type 0
 EntryLawful = (v : View) (used x o : ℕ) (ps : List ℕ) (l : ℕ) (t : Tree l) → shaped l 1 t ≡ true → Within ps l t → LawfulEntry v used x o ps l t (entered v used x o ps l t)

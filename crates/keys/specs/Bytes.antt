@@ -1,10 +1,10 @@
 -- Keys as bytes.
 use Rattle.std.specs.Prelude.{◌≡◌, ℕ, zero, suc, ◌/◌, ◌%◌, ◌<◌, ◌⊎◌, List, [], ◌∷◌, ◌++◌, length}
-use Rattle.std.specs.List.{AllByRecursion as All}
+use Rattle.std.specs.List.{AllByRecursion}
 
 -- k is a key of w bytes
 abbrev pub Key : ℕ → List ℕ → Type 0
-Key w k = (length k ≡ w) × All (λ b. b < 256) k
+Key w k = (length k ≡ w) × AllByRecursion (λ b. b < 256) k
 
 -- the order of the bytes read one after the other: smaller at the first place where the two differ
 abbrev pub Smaller : List ℕ → List ℕ → Type 0

@@ -2,7 +2,7 @@
 use Rattle.std.proofs.Common.{◌≡◌, ℕ, ◌-◌, ◌<◌, ◌↔◌, List, [], ◌∷◌, length, get_or, Ok, Err, Result, sym, refl, ap, ◌∙◌, inl, inr, ⊎_elim, arith}
 use Rattle.std.proofs.ByRecursion.{All-from_get_or}
 use Rattle.std.proofs.lemmas.List.{get_or-map, length-map, map_push}
-use Rattle.std.specs.List.{AllByRecursion as All}
+use Rattle.std.specs.List.{AllByRecursion}
 use Rattle.keys.specs.Bytes.{Smaller}
 use Rattle.store.specs.Grounds.{first_ground}
 use Rattle.store.specs.Meaning.{Appended, Fetched, Meaning, append_grounds, fetch_grounds, filed, key_of}
@@ -28,7 +28,7 @@ pub refused_shown : (f : List ℕ → List ℕ) (m m' : Meaning) (r : ℕ) (b b�
 refused_shown f m m' r b b₁ e below same up h = (ap first_ground (same_grounds f m r (length b)) ∙ h.0, up h.1, h.2)
 
 -- inverted keys of one width have the reverse order
-pub inverted-smaller : (a b : List ℕ) → length a ≡ length b → All (λ x. x < 256) a → All (λ x. x < 256) b → Smaller a b ↔ Smaller (inverted b) (inverted a)
+pub inverted-smaller : (a b : List ℕ) → length a ≡ length b → AllByRecursion (λ x. x < 256) a → AllByRecursion (λ x. x < 256) b → Smaller a b ↔ Smaller (inverted b) (inverted a)
 inverted-smaller [] [] l fa fb = (λ s. s, λ s. s)
 inverted-smaller [] (y ∷ b) l fa fb = absurd (omega arith)
 inverted-smaller (x ∷ a) [] l fa fb = absurd (omega arith)

@@ -1,6 +1,6 @@
 -- Reads up to the first record that is missing.
 use Rattle.std.proofs.Common.{◌≡◌, ℕ, ◌+◌, ◌%◌, ◌^◌, ◌<◌, ◌≤◌, Bool, true, false, cond, ltb, List, [], ◌∷◌, ◌++◌, length, Some, None, Option, sym, refl, ap, ◌∙◌, arith}
-use Rattle.std.specs.List.{AllByRecursion as All}
+use Rattle.std.specs.List.{AllByRecursion}
 use Rattle.std.proofs.lemmas.List.{length-append}
 use Rattle.std.proofs.lemmas.Bool.Decides.{nat_tests}
 use Rattle.plans.specs.Reads.{EndsAtTheMissing, Fetches, Reads, ReadsAll, reads_until, with_first}
@@ -13,19 +13,19 @@ lacks : (r n : ℕ) → n ≤ r → ltb r n ≡ false
 lacks r n le = grind (arith, nat_tests)
 
 -- all held, all are read
-pub read_all : (n : ℕ) (rs : List ℕ) → All (λ r. r < n) rs → reads_until n rs ≡ record { before = rs; missing = None }
+pub read_all : (n : ℕ) (rs : List ℕ) → AllByRecursion (λ r. r < n) rs → reads_until n rs ≡ record { before = rs; missing = None }
 read_all n [] a = refl
 read_all n (r ∷ rs) a =
     ap (λ (b : Bool). cond b (with_first r (reads_until n rs)) (record { before = []; missing = Some r })) (held r n a.0)
     ∙ ap (with_first r) (read_all n rs a.1)
 
 -- none missing, all were read
-pub none_missing : (n : ℕ) (rs : List ℕ) → (reads_until n rs).missing ≡ None → ((reads_until n rs).before ≡ rs) × All (λ r. r < n) rs
+pub none_missing : (n : ℕ) (rs : List ℕ) → (reads_until n rs).missing ≡ None → ((reads_until n rs).before ≡ rs) × AllByRecursion (λ r. r < n) rs
 none_missing n [] e = (refl, tt)
 none_missing n (r ∷ rs) e = go (none_missing n rs) (ltb r n) refl e
   where
-    go : ((reads_until n rs).missing ≡ None → ((reads_until n rs).before ≡ rs) × All (λ q. q < n) rs) → (b : Bool) → ltb r n ≡ b → (cond b (with_first r (reads_until n rs)) (record { before = []; missing = Some r })).missing ≡ None
-        → ((cond b (with_first r (reads_until n rs)) (record { before = []; missing = Some r })).before ≡ r ∷ rs) × All (λ q. q < n) (r ∷ rs)
+    go : ((reads_until n rs).missing ≡ None → ((reads_until n rs).before ≡ rs) × AllByRecursion (λ q. q < n) rs) → (b : Bool) → ltb r n ≡ b → (cond b (with_first r (reads_until n rs)) (record { before = []; missing = Some r })).missing ≡ None
+        → ((cond b (with_first r (reads_until n rs)) (record { before = []; missing = Some r })).before ≡ r ∷ rs) × AllByRecursion (λ q. q < n) (r ∷ rs)
     go on true h m = let p = on m in (ap (λ (zs : List ℕ). r ∷ zs) p.0, (grind (arith, nat_tests), p.1))
     go on false h m = absurd (let z : ◌≡◌ {A = ℕ} 0 1 = cc in omega arith)
 
@@ -49,7 +49,7 @@ reads_stop n (r ∷ rs) ss q e = go (reads_stop n rs ss q) (ltb r n) e
     go on false m = refl
 
 -- the first that is not held
-pub first_missing : (n : ℕ) (ys : List ℕ) (q : ℕ) (zs : List ℕ) → All (λ r. r < n) ys → n ≤ q → reads_until n (ys ++ (q ∷ zs)) ≡ record { before = ys; missing = Some q }
+pub first_missing : (n : ℕ) (ys : List ℕ) (q : ℕ) (zs : List ℕ) → AllByRecursion (λ r. r < n) ys → n ≤ q → reads_until n (ys ++ (q ∷ zs)) ≡ record { before = ys; missing = Some q }
 first_missing n [] q zs a le = ap (λ (b : Bool). cond b (with_first q (reads_until n zs)) (record { before = []; missing = Some q })) (lacks q n le)
 first_missing n (y ∷ ys) q zs a le =
     ap (λ (b : Bool). cond b (with_first y (reads_until n (ys ++ (q ∷ zs)))) (record { before = []; missing = Some y })) (held y n a.0)
@@ -57,12 +57,12 @@ first_missing n (y ∷ ys) q zs a le =
 
 -- where the reads ended, the list parts at the missing one
 pub parts_at : (n : ℕ) (rs : List ℕ) (q : ℕ) → (reads_until n rs).missing ≡ Some q
-    → (zs : List ℕ) × ((rs ≡ (reads_until n rs).before ++ (q ∷ zs)) × (All (λ r. r < n) (reads_until n rs).before × (n ≤ q)))
+    → (zs : List ℕ) × ((rs ≡ (reads_until n rs).before ++ (q ∷ zs)) × (AllByRecursion (λ r. r < n) (reads_until n rs).before × (n ≤ q)))
 parts_at n [] q e = absurd (let z : ◌≡◌ {A = ℕ} 0 1 = cc in omega arith)
 parts_at n (r ∷ rs) q e = go (parts_at n rs q) (ltb r n) refl e
   where
-    go : ((reads_until n rs).missing ≡ Some q → (zs : List ℕ) × ((rs ≡ (reads_until n rs).before ++ (q ∷ zs)) × (All (λ k. k < n) (reads_until n rs).before × (n ≤ q)))) → (b : Bool) → ltb r n ≡ b → (cond b (with_first r (reads_until n rs)) (record { before = []; missing = Some r })).missing ≡ Some q
-        → (zs : List ℕ) × ((r ∷ rs ≡ (cond b (with_first r (reads_until n rs)) (record { before = []; missing = Some r })).before ++ (q ∷ zs)) × (All (λ k. k < n) (cond b (with_first r (reads_until n rs)) (record { before = []; missing = Some r })).before × (n ≤ q)))
+    go : ((reads_until n rs).missing ≡ Some q → (zs : List ℕ) × ((rs ≡ (reads_until n rs).before ++ (q ∷ zs)) × (AllByRecursion (λ k. k < n) (reads_until n rs).before × (n ≤ q)))) → (b : Bool) → ltb r n ≡ b → (cond b (with_first r (reads_until n rs)) (record { before = []; missing = Some r })).missing ≡ Some q
+        → (zs : List ℕ) × ((r ∷ rs ≡ (cond b (with_first r (reads_until n rs)) (record { before = []; missing = Some r })).before ++ (q ∷ zs)) × (AllByRecursion (λ k. k < n) (cond b (with_first r (reads_until n rs)) (record { before = []; missing = Some r })).before × (n ≤ q)))
     go on true h m = let p = on m in (p.0, (ap (λ (zs : List ℕ). r ∷ zs) p.1.0, ((grind (arith, nat_tests), p.1.1.0), p.1.1.1)))
     go on false h m = let w : r ≡ q = cc in (rs, (ap (λ (k : ℕ). k ∷ rs) w, (tt, grind (arith, nat_tests))))
 

@@ -1,6 +1,6 @@
 -- Reads of a list of records, in order, up to the first that a store lacks.
 use Rattle.std.specs.Prelude.{◌≡◌, ℕ, ◌<◌, ◌≤◌, cond, ◌↔◌, List, [], ◌∷◌, ◌++◌, length, Some, None, Option, nat_lt}
-use Rattle.std.specs.List.{AllByRecursion as All}
+use Rattle.std.specs.List.{AllByRecursion}
 use Rattle.store.specs.Meaning.{Meaning, after_reads}
 
 -- the records that were read, and the one that was missing, if one was
@@ -23,9 +23,9 @@ pub record Fetches (m : Meaning) (rs : List ℕ) (missing : Option ℕ) (m' : Me
 
 -- None is missing exactly if all are held, and then all were read.
 abbrev pub ReadsAll : Type 0
-ReadsAll = (n : ℕ) (rs : List ℕ) → ((reads_until n rs).missing ≡ None) ↔ (((reads_until n rs).before ≡ rs) × All (λ r. r < n) rs)
+ReadsAll = (n : ℕ) (rs : List ℕ) → ((reads_until n rs).missing ≡ None) ↔ (((reads_until n rs).before ≡ rs) × AllByRecursion (λ r. r < n) rs)
 
 -- The missing one is the first that is not held, and those before it were read.
 abbrev pub EndsAtTheMissing : Type 0
 EndsAtTheMissing = (n : ℕ) (rs : List ℕ) (q : ℕ) → ((reads_until n rs).missing ≡ Some q) ↔
-    ((zs : List ℕ) × ((rs ≡ (reads_until n rs).before ++ (q ∷ zs)) × (All (λ r. r < n) (reads_until n rs).before × (n ≤ q))))
+    ((zs : List ℕ) × ((rs ≡ (reads_until n rs).before ++ (q ∷ zs)) × (AllByRecursion (λ r. r < n) (reads_until n rs).before × (n ≤ q))))

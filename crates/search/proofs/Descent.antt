@@ -1,7 +1,7 @@
 -- The search down a faithful tree finds the place of its key.
 use Rattle.std.proofs.Common.{◌≡◌, ℕ, zero, suc, ◌+◌, ◌<◌, ◌≤◌, List, [], ◌∷◌, ◌++◌, map, length, get_or, Some, None, Option, sym, refl, ap, ◌∙◌, subst, append_assoc, arith}
 use Rattle.std.proofs.lemmas.List.{get_or-map, length-map}
-use Rattle.std.specs.List.{AllByRecursion as All}
+use Rattle.std.specs.List.{AllByRecursion}
 use Rattle.keys.specs.Digits.{Above, Agree, Below, Digits}
 use Rattle.keys.specs.declared.comparison.Comparison.{Comparison}
 use Rattle.nodes.specs.declared.node.Entry.{Entry}
@@ -73,7 +73,7 @@ lift v N s base b a q es fs c over (gone r) h = h
 
 module _ (v : View) (N : ℕ) (s : Digits) (fetch : ℕ → Option Comparison) (tell : ℕ → Comparison) (small : (r j : ℕ) → v.key r j ≤ 1) (told : (r : ℕ) → Tells N s (v.key r) (tell r)) where
   abbrev At : List ℕ → Type 0
-  At rs = All (λ r. fetch r ≡ Some (tell r)) rs
+  At rs = AllByRecursion (λ r. fetch r ≡ Some (tell r)) rs
 
   abbrev Finds : (l : ℕ) → Type 0
   Finds l = (t : Tree l) (base : Digits) (c : Ceiling) (b : Option ℕ) (o : ℕ) (a : Option ℕ) → Faithful v l base c t → At (records l t) → Above s base o →

@@ -1,6 +1,6 @@
 -- A store that grew keeps a tree faithful.
 use Rattle.std.proofs.Common.{◌≡◌, ℕ, zero, suc, ◌<◌, List, [], ◌∷◌, map, sym, ap, ◌∙◌, subst}
-use Rattle.std.specs.List.{AllByRecursion as All}
+use Rattle.std.specs.List.{AllByRecursion}
 use Rattle.keys.specs.Digits.{Above, Digits}
 use Rattle.keys.specs.Partials.{partial_at}
 use Rattle.nodes.specs.declared.node.Entry.{Entry}
@@ -20,8 +20,8 @@ module _ (v w : View) (n : ℕ) (last : w.last ≡ v.last) (keep : w.keep ≡ v.
             ∙ ap (λ z. record { number = e.number; partial = partial_at w.keep w.last z e.partial.offset }) q));
       }
 
-  strung_grows : (T : Type 0) (F G : Digits → Ceiling → T → Type 0) (f : T → List ℕ) → ((b : Digits) (c : Ceiling) (t : T) → All (λ r. r < n) (f t) → F b c t → G b c t) →
-      (b : Digits) (c : Ceiling) (es : List Entry) (ts : List T) → All (λ r. r < n) (weave es (map f ts)) → Strung v F b c es ts → Strung w G b c es ts
+  strung_grows : (T : Type 0) (F G : Digits → Ceiling → T → Type 0) (f : T → List ℕ) → ((b : Digits) (c : Ceiling) (t : T) → AllByRecursion (λ r. r < n) (f t) → F b c t → G b c t) →
+      (b : Digits) (c : Ceiling) (es : List Entry) (ts : List T) → AllByRecursion (λ r. r < n) (weave es (map f ts)) → Strung v F b c es ts → Strung w G b c es ts
   strung_grows T F G f each b c [] [] a h = h
   strung_grows T F G f each b c [] (t ∷ []) a h = each b c t a h
   strung_grows T F G f each b c [] (t ∷ (u ∷ ts)) a h = h
@@ -33,7 +33,7 @@ module _ (v w : View) (n : ℕ) (last : w.last ≡ v.last) (keep : w.keep ≡ v.
         (entry_grows b e back.0 h.1.0, subst (λ k. Strung w G k c es ts) q (strung_grows T F G f each (v.key e.number) c es ts back.1 h.1.1)),
       )
 
-  faithful_grows : (l : ℕ) (b : Digits) (c : Ceiling) (t : Tree l) → All (λ r. r < n) (records l t) → Faithful v l b c t → Faithful w l b c t
+  faithful_grows : (l : ℕ) (b : Digits) (c : Ceiling) (t : Tree l) → AllByRecursion (λ r. r < n) (records l t) → Faithful v l b c t → Faithful w l b c t
   faithful_grows zero b c t a h = h
   faithful_grows (suc l) b c t a h = strung_grows (Tree l) (Faithful v l) (Faithful w l) (records l) (faithful_grows l) b c t.entries t.kids a h
 

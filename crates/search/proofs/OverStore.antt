@@ -3,7 +3,7 @@ use Rattle.std.proofs.Common.{◌≡◌, ℕ, ◌+◌, ◌*◌, ◌<◌, ◌≤�
 use Rattle.std.proofs.ByRecursion.{All-get_or}
 use Rattle.std.proofs.lemmas.List.{get_or_past}
 use Rattle.std.proofs.lemmas.Bool.{cases_lt, cond-true, lt-ltb}
-use Rattle.std.specs.List.{AllByRecursion as All}
+use Rattle.std.specs.List.{AllByRecursion}
 use Rattle.keys.proofs.Places.{bit_past, bit_small}
 use Rattle.keys.specs.Bits.{bits}
 use Rattle.keys.specs.Bytes.{Key}
@@ -17,7 +17,7 @@ use Rattle.search.proofs.Plainly.{lookup_right}
 use Rattle.search.proofs.Walking.{walk_right}
 
 -- a byte past the end reads as 0
-pub byte_small : (k : List ℕ) → All (λ b. b < 256) k → (i : ℕ) → get_or k i 0 < 256
+pub byte_small : (k : List ℕ) → AllByRecursion (λ b. b < 256) k → (i : ℕ) → get_or k i 0 < 256
 byte_small k h i = elim (cases_lt i (length k)) [ inl l ↦ All-get_or (λ b. b < 256) k i 0 l h | inr l ↦ omega (arith, get_or_past k i 0 l) ]
 
 pub no_bit_past : (w : ℕ) (k : List ℕ) → length k ≤ w → (j : ℕ) → 8 * w < j → bits k j ≡ 0

@@ -1,7 +1,7 @@
 -- The records from the searched place on are those whose keys are not below.
 use Rattle.std.proofs.Common.{◌≡◌, ℕ, zero, suc, ◌+◌, ◌<◌, ◌≤◌, ◌⊎◌, List, [], ◌∷◌, ◌++◌, map, length, get_or, Some, Option, sym, refl, ap, ◌∙◌, subst, inl, inr, append_assoc, arith}
 use Rattle.std.proofs.lemmas.List.{get_or-map, length-map}
-use Rattle.std.specs.List.{AllByRecursion as All}
+use Rattle.std.specs.List.{AllByRecursion}
 use Rattle.keys.specs.Digits.{Above, Agree, Below, Digits, floor}
 use Rattle.keys.specs.declared.comparison.Comparison.{Comparison}
 use Rattle.nodes.specs.declared.node.Entry.{Entry}
@@ -55,7 +55,7 @@ lift v N s base q es fs c over ys h = subst (λ zs. Tail v N s (weave es fs) bas
 
 module _ (v : View) (N : ℕ) (s : Digits) (fetch : ℕ → Option Comparison) (tell : ℕ → Comparison) (small : (r j : ℕ) → v.key r j ≤ 1) (told : (r : ℕ) → Tells N s (v.key r) (tell r)) where
   abbrev At : List ℕ → Type 0
-  At rs = All (λ r. fetch r ≡ Some (tell r)) rs
+  At rs = AllByRecursion (λ r. fetch r ≡ Some (tell r)) rs
 
   abbrev Follows : (l : ℕ) → Type 0
   Follows l = (t : Tree l) (base : Digits) (c : Ceiling) (o : ℕ) → Faithful v l base c t → At (records l t) → Above s base o → Tail v N s (records l t) base (rest s fetch l t o)

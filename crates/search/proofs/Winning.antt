@@ -1,7 +1,7 @@
 -- The winner that the search shows.
 use Rattle.std.proofs.Common.{◌≡◌, ℕ, ◌+◌, ◌*◌, ◌<◌, ◌≤◌, min, ltb, ◌⊎◌, List, [], ◌∷◌, ◌++◌, length, get_or, Some, None, Option, sym, refl, ap, subst, inl, inr, arith}
 use Rattle.std.proofs.lemmas.Bool.{cond_both, ltb-false, ltb-true}
-use Rattle.std.specs.List.{AllByRecursion as All}
+use Rattle.std.specs.List.{AllByRecursion}
 use Rattle.keys.proofs.Lexical.{order_of_bytes}
 use Rattle.keys.proofs.Offsets.{below_trans, chain_two, not_both, not_itself}
 use Rattle.keys.specs.Bits.{bits}
@@ -36,7 +36,7 @@ in_left r [] ys h = absurd h
 in_left r (x ∷ xs) ys (inl e) = inl e
 in_left r (x ∷ xs) ys (inr h) = inr (in_left r xs ys h)
 
-all_in : (P : ℕ → Type 0) (xs : List ℕ) → All P xs → (q : ℕ) → IsIn q xs → P q
+all_in : (P : ℕ → Type 0) (xs : List ℕ) → AllByRecursion P xs → (q : ℕ) → IsIn q xs → P q
 all_in P [] h q i = absurd i
 all_in P (x ∷ xs) h q (inl e) = subst P (sym e) h.0
 all_in P (x ∷ xs) h q (inr i) = all_in P xs h.1 q i

@@ -1,6 +1,6 @@
 -- What holds of the search down a tree.
 use Rattle.std.specs.Prelude.{◌≡◌, ℕ, ◌+◌, ◌*◌, ◌<◌, ◌≤◌, true, cond, ◌↔◌, List, ◌++◌, length, Some, None, Option, nat_lt}
-use Rattle.std.specs.List.{AllByRecursion as All}
+use Rattle.std.specs.List.{AllByRecursion}
 use Rattle.keys.specs.Bits.{bits}
 use Rattle.keys.specs.Bytes.{Key}
 use Rattle.keys.specs.Comparing.{compared, comparison}
@@ -31,7 +31,7 @@ tells v s r = compared (v.last + 1) s (v.key r)
 
 -- the records of a tree are at hand: each is compared with s by its own key
 abbrev pub AtHand : View → Digits → (ℕ → Option Comparison) → List ℕ → Type 0
-AtHand v s fetch rs = All (λ r. fetch r ≡ Some (tells v s r)) rs
+AtHand v s fetch rs = AllByRecursion (λ r. fetch r ≡ Some (tells v s r)) rs
 
 -- Over a faithful tree the search gives what the plain list gives.
 abbrev pub LookupRight : Type 0
@@ -64,7 +64,7 @@ WalkOwn = (s : Digits) (fetch : ℕ → Option Comparison) (l least : ℕ) (t : 
 abbrev pub Grows : Type 0
 Grows = (v w : View) (n l : ℕ) (base : Digits) (c : Ceiling) (t : Tree l) →
     w.last ≡ v.last → w.keep ≡ v.keep → ((r : ℕ) → r < n → w.key r ≡ v.key r) →
-    All (λ r. r < n) (records l t) → Faithful v l base c t → Faithful w l base c t
+    AllByRecursion (λ r. r < n) (records l t) → Faithful v l base c t → Faithful w l base c t
 
 -- how an index with a partial length sees a store
 abbrev pub view_of : (keep : ℕ) → Meaning → View
@@ -76,7 +76,7 @@ fetching m key r = cond (nat_lt r (length m.keys)) (Some (comparison key (key_of
 
 -- the store holds all the records
 abbrev pub HeldBy : Meaning → List ℕ → Type 0
-HeldBy m rs = All (λ r. r < length m.keys) rs
+HeldBy m rs = AllByRecursion (λ r. r < length m.keys) rs
 
 -- A lawful store, a key of its width, and a tree that is faithful to it and whose records it holds.
 pub record StandsOver (m : Meaning) (keep l : ℕ) (t : Tree l) (key : List ℕ) : Type 0 where

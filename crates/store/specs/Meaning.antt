@@ -1,6 +1,6 @@
 -- What a store means, and what its calls do to that.
 use Rattle.std.specs.Prelude.{◌≡◌, ℕ, ◌+◌, ◌%◌, ◌^◌, ◌<◌, ◌≤◌, not, List, [], ◌∷◌, ◌++◌, length, Some, Ok, Err, Result, ◌==◌, nat_le, slice_index_or}
-use Rattle.std.specs.List.{AllByRecursion as All}
+use Rattle.std.specs.List.{AllByRecursion}
 use Rattle.keys.specs.Bytes.{Key}
 use Rattle.store.specs.declared.refusal.Refusal.{Refusal}
 use Rattle.store.specs.declared.refusal.Refusal.TheVariants.{KeyLength, NotHeld, StoreFull}
@@ -18,7 +18,7 @@ pub record Meaning : Type 0 where
 pub record Lawful (m : Meaning) : Type 0 where
   pub narrowest : 1 ≤ m.width
   pub widest : m.width ≤ 32
-  pub each : All (Key m.width) m.keys
+  pub each : AllByRecursion (Key m.width) m.keys
   pub room : length m.keys ≤ m.capacity
   pub most : m.capacity ≤ 65535
   pub wraps : m.tally < 2 ^ 32

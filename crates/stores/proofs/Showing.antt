@@ -2,7 +2,7 @@
 use Rattle.std.proofs.Common.{◌≡◌, ℕ, ◌-◌, ◌<◌, ◌≤◌, min, ◌↔◌, List, [], ◌∷◌, length, Ok, Err, sym, refl, ap, ◌∙◌, inl, inr, ⊎_elim, arith}
 use Rattle.std.proofs.lemmas.List.{drop_all, get_or-map, length-map, take_all}
 use Rattle.std.proofs.lemmas.Bool.{cases_lt}
-use Rattle.std.specs.List.{AllByRecursion as All}
+use Rattle.std.specs.List.{AllByRecursion}
 use Rattle.keys.specs.Bytes.{Smaller}
 use Rattle.store.specs.Grounds.{first_ground}
 use Rattle.store.specs.Meaning.{Fetched, Meaning, fetch_grounds, key_of}
@@ -37,7 +37,7 @@ turned_within cut k = ⊎_elim
     (cases_lt cut (length k))
 
 -- inverted keys of one width have the reverse order
-pub inverted-smaller : (a b : List ℕ) → length a ≡ length b → All (λ x. x < 256) a → All (λ x. x < 256) b → Smaller a b ↔ Smaller (inverted b) (inverted a)
+pub inverted-smaller : (a b : List ℕ) → length a ≡ length b → AllByRecursion (λ x. x < 256) a → AllByRecursion (λ x. x < 256) b → Smaller a b ↔ Smaller (inverted b) (inverted a)
 inverted-smaller [] [] l fa fb = (λ s. s, λ s. s)
 inverted-smaller [] (y ∷ b) l fa fb = absurd (omega arith)
 inverted-smaller (x ∷ a) [] l fa fb = absurd (omega arith)

@@ -1,7 +1,7 @@
 -- The pocket is a lawful store: the proof that its ghost member `lawful` gives.
 use Rattle.std.specs.Prelude.{◌≡◌, ℕ, ◌^◌, ◌<◌, ◌≤◌, List, [], ◌∷◌, map, length, take, vec_items, vec_len, Vec}
 use Rattle.std.proofs.Common.{sym, ◌∙◌, arith}
-use Rattle.std.specs.List.{AllByRecursion as All}
+use Rattle.std.specs.List.{AllByRecursion}
 use Rattle.std.proofs.ByRecursion.{All-from_get_or, All-map}
 use Rattle.std.proofs.lemmas.List.{get_or-take, length-map, length-take-le}
 use Rattle.keys.specs.Bytes.{Key}
@@ -9,7 +9,7 @@ use Rattle.store.specs.Meaning.{Lawful}
 use Rattle.stores.specs.Pockets.{key_in, pocket_of}
 use Rattle.stores.specs.declared.row.Row.{Row}
 
-all_any : {X : Type 0} (P : X → Type 0) → ((x : X) → P x) → (xs : List X) → All P xs
+all_any : {X : Type 0} (P : X → Type 0) → ((x : X) → P x) → (xs : List X) → AllByRecursion P xs
 all_any P f [] = tt
 all_any P f (x ∷ xs) = (f x, all_any P f xs)
 
