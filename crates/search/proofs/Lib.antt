@@ -19,4 +19,3 @@ pub mod OverStore
 pub mod Heads
 pub mod Winning
 pub mod Examples
-pub mod Runs

@@ -1,5 +1,6 @@
 -- What one turn of each loop does to the definition that it computes.
-use Rattle.std.proofs.Common.{◌≡◌, ℕ, zero, suc, ◌+◌, ◌-◌, ◌/◌, ◌%◌, ◌^◌, ◌<◌, ◌≤◌, true, false, List, ◌∷◌, Some, None, Option, sym, refl, ap, ◌∙◌, add-one, arith}
+use Rattle.std.proofs.Common.{◌≡◌, ℕ, zero, suc, ◌+◌, ◌-◌, ◌/◌, ◌%◌, ◌^◌, ◌<◌, ◌≤◌, true, false, List, ◌∷◌, Some, None, Option, sym, refl, ap, ◌∙◌, add-one, arith, pow_mono}
+use native.Mathlib.Nat.{div-eq_of_lt}
 use Rattle.std.proofs.lemmas.Bool.{cond-false, cond-true, le-leb, le-ltb, lt-leb, lt-ltb}
 use Rattle.keys.specs.Digits.{Digits}
 use Rattle.search.specs.Parts.{Parts, low_bits}
@@ -10,7 +11,11 @@ use Rattle.search.specs.declared.order.Order.TheVariants.{Greater, Less, Open}
 use Rattle.search.specs.declared.place.Step.TheVariants.{Ask, Known}
 use Rattle.search.specs.declared.sweep.Swept.{Swept}
 
-pub low_bits_at : (m v : ℕ) → 0 < m → low_bits m v ≡ ((v / 2 ^ (m - 1)) % 2) ∷ low_bits (m - 1) v
+-- a number of 16 bits has none above them
+pub none_over : (v m : ℕ) → v < 2 ^ 16 → 16 ≤ m → (v / 2 ^ m) % 2 ≡ 0
+none_over v m h l = let p : 2 ^ 16 ≤ 2 ^ m = pow_mono {i = 16} {j = m} l in let z : v / 2 ^ m ≡ 0 = div-eq_of_lt (omega arith) in omega arith
+
+low_bits_at : (m v : ℕ) → 0 < m → low_bits m v ≡ ((v / 2 ^ (m - 1)) % 2) ∷ low_bits (m - 1) v
 low_bits_at zero v h = absurd (omega arith)
 low_bits_at (suc m) v h = let e : suc m - 1 ≡ m = omega arith in rw e refl
 
@@ -22,8 +27,14 @@ module _ (s : Digits) (b own x : ℕ) (is : own ≡ s b) where
   pub turn_greater : (xs : List ℕ) → x < own → against s b (x ∷ xs) ≡ Greater b
   turn_greater xs h = cond-false _ _ _ (le-ltb (s b) x (omega arith)) ∙ cond-true _ _ _ (lt-ltb x (s b) (omega arith))
 
-  pub turn_same : (xs : List ℕ) → x ≡ own → against s b (x ∷ xs) ≡ against s (b + 1) xs
+  turn_same : (xs : List ℕ) → x ≡ own → against s b (x ∷ xs) ≡ against s (b + 1) xs
   turn_same xs h = rw add-one (cond-false _ _ _ (le-ltb (s b) x (omega arith)) ∙ cond-false _ _ _ (le-ltb x (s b) (omega arith)))
+
+  pub turn-open : (m v : ℕ) → x ≡ own → m ≡ 0 → against s b (x ∷ low_bits m v) ≡ Open (b + 1)
+  turn-open m v h z = turn_same (low_bits m v) h ∙ ap (λ k. against s (b + 1) (low_bits k v)) z
+
+  pub turn_on : (m v y : ℕ) → x ≡ own → 0 < m → y ≡ (v / 2 ^ (m - 1)) % 2 → against s b (x ∷ low_bits m v) ≡ against s (b + 1) (y ∷ low_bits (m - 1) v)
+  turn_on m v y h l e = turn_same (low_bits m v) h ∙ ap (against s (b + 1)) (low_bits_at m v l ∙ ap (λ z. z ∷ low_bits (m - 1) v) (sym e))
 
 pub step_stays : (s : Digits) (r : Order) (e : ℕ) (xs : List ℕ) → offset_of r < e → r ≡ step s r e xs
 step_stays s r e xs h = sym (cond-true _ _ _ (lt-ltb (offset_of r) e h))

@@ -1,11 +1,10 @@
-ghost use Rattle.std.specs.Prelude.{◌≡◌, ◌/◌, ◌%◌, ◌^◌, ◌≤◌, ◌∷◌};
+ghost use Rattle.std.specs.Prelude.{◌≡◌, ◌/◌, ◌%◌, ◌^◌, ◌∷◌};
 ghost use Rattle.keys.specs.Bits.{bits};
 ghost use Rattle.search.specs.Parts.{low_bits};
 ghost use Rattle.search.specs.Sweeping.{against, offset_of, step};
 
-use keys::key::{bit, byte_after};
+use keys::key::bit;
 use keys::partial::{LONGEST, PartialKey};
-use keys::zeros::leading_zeros;
 
 /// What is known of the search key against a key: greater or less, with their offset, or open, with the place up to which
 /// the two agree.
@@ -29,42 +28,38 @@ impl Order {
     }
 }
 
-// So many bits of a number, eight at most, with `below` bits under them.
-fn bits_over(number: u16, below: u8, count: u8) -> u8
-    requires { count ≤ 8 }
-    ensures { result ≡ (number / 2 ^ below) % 2 ^ count }
+// The bit of a number that has so many bits below it.
+fn bit_over(number: u16, below: u8) -> u8
+    ensures { result ≡ (number / 2 ^ below) % 2 }
 {
     if below >= LONGEST {
         return 0;
     }
-    ((number >> below) % (1 << count)) as u8
+    ((number >> below) & 1) as u8
 }
 
-// The key's bits from the offset of a partial key on against a 1 and the bits kept, eight at a time.
+// The key's bits from the offset of a partial key on against a 1 and the bits kept.
 fn against_kept(key: &[u8], partial: PartialKey) -> Order
     ensures { result ≡ against (bits key.now) partial.offset (1 ∷ low_bits partial.length partial.bits) }
 {
     let mut place = partial.offset as usize;
-    if bit(key, place) == 0 {
-        return Order::Less(place);
-    }
     let mut left = partial.length;
-    while left > 0 {
-        let taken = left.min(8);
-        left -= taken;
-        let own = byte_after(key, place) >> (8 - taken);
-        let kept = bits_over(partial.bits, left, taken);
-        if own != kept {
-            let parted = place + (leading_zeros(own ^ kept) + taken) as usize - 7;
-            return if own < kept {
-                Order::Less(parted)
-            } else {
-                Order::Greater(parted)
-            };
+    let mut stored = 1;
+    loop {
+        let own = bit(key, place);
+        if own < stored {
+            return Order::Less(place);
         }
-        place += taken as usize;
+        if stored < own {
+            return Order::Greater(place);
+        }
+        place += 1;
+        if left == 0 {
+            return Order::Open(place);
+        }
+        left -= 1;
+        stored = bit_over(partial.bits, left);
     }
-    Order::Open(place + 1)
 }
 
 /// The order to the next key, from the order to the key before it.

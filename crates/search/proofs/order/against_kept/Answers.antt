@@ -1,31 +1,24 @@
 use Rattle.std.proofs.Common.{sym, ◌∙◌, arith}
 use Rattle.keys.specs.Bits.{bits}
-use Rattle.keys.proofs.Places.{bit_small}
-use Rattle.search.proofs.Runs.{turn_above, turn_agrees, turn_below, turn_far}
+use Rattle.search.specs.Parts.{low_bits}
+use Rattle.search.proofs.Turns.{turn_greater, turn_less, turn_on, turn-open}
 use Rattle.search.proofs.order.against_kept.Goals as goal
 
-pub overflow_sub-parted : goal.overflow_sub-parted
-overflow_sub-parted c =
-    let key = c.args.key.now in
-    let far = turn_far (bits key) (bit_small key) c.args.partial.bits c.loop-left.place c.loop-left.left c.min-taken.result c.byte_after.result c.bits_over-kept.result (omega arith) c.min-taken.ensures c.byte_after.ensures c.bits_over-kept.ensures c.leading_zeros.result c.leading_zeros.ensures c.if-own-kept.true in
-    omega (arith, far)
+pub returns-then-own-stored : goal.returns-then-own-stored
+returns-then-own-stored c = sym (c.loop-stored.invariant.1 ∙
+    turn_less (bits c.args.key.now) c.loop-stored.place c.bit-own.result c.loop-stored.stored c.bit-own.ensures.value (low_bits c.loop-stored.left c.args.partial.bits) (omega arith))
 
-pub returns-then-own-kept-2 : goal.returns-then-own-kept-2
-returns-then-own-kept-2 c =
-    let key = c.args.key.now in
-    turn_below (bits key) (bit_small key) c.args.partial.bits c.loop-left.place c.loop-left.left c.min-taken.result c.byte_after.result c.bits_over-kept.result (omega arith) c.min-taken.ensures c.byte_after.ensures c.bits_over-kept.ensures c.leading_zeros.result c.leading_zeros.ensures c.if-own-kept.true c.if-own-kept-2.true ∙
-    sym c.loop-left.invariant.1
+pub returns-then-stored-own : goal.returns-then-stored-own
+returns-then-stored-own c = sym (c.loop-stored.invariant.1 ∙
+    turn_greater (bits c.args.key.now) c.loop-stored.place c.bit-own.result c.loop-stored.stored c.bit-own.ensures.value (low_bits c.loop-stored.left c.args.partial.bits) (omega arith))
 
-pub returns-else-own-kept-2 : goal.returns-else-own-kept-2
-returns-else-own-kept-2 c =
-    let key = c.args.key.now in
-    turn_above (bits key) (bit_small key) c.args.partial.bits c.loop-left.place c.loop-left.left c.min-taken.result c.byte_after.result c.bits_over-kept.result (omega arith) c.min-taken.ensures c.byte_after.ensures c.bits_over-kept.ensures c.leading_zeros.result c.leading_zeros.ensures c.if-own-kept.true (omega (arith, c.if-own-kept-2.false, c.if-own-kept.true)) ∙
-    sym c.loop-left.invariant.1
+pub returns-then-left-eq0 : goal.returns-then-left-eq0
+returns-then-left-eq0 c = sym (c.loop-stored.invariant.1 ∙
+    turn-open (bits c.args.key.now) c.loop-stored.place c.bit-own.result c.loop-stored.stored c.bit-own.ensures.value c.loop-stored.left c.args.partial.bits (omega arith) (omega arith))
 
-pub loop-left-preserved : goal.loop-left-preserved
-loop-left-preserved c =
-    let key = c.args.key.now in (
-      omega arith,
-      c.loop-left.invariant.1 ∙
-          turn_agrees (bits key) (bit_small key) c.args.partial.bits c.loop-left.place c.loop-left.left c.min-taken.result c.byte_after.result c.bits_over-kept.result (omega arith) c.min-taken.ensures c.byte_after.ensures c.bits_over-kept.ensures c.if-own-kept.false,
-    )
+pub loop-stored-preserved : goal.loop-stored-preserved
+loop-stored-preserved c = (
+  omega arith,
+  c.loop-stored.invariant.1 ∙
+      turn_on (bits c.args.key.now) c.loop-stored.place c.bit-own.result c.loop-stored.stored c.bit-own.ensures.value c.loop-stored.left c.args.partial.bits c.bit_over-stored.result (omega arith) (omega arith) c.bit_over-stored.ensures,
+)

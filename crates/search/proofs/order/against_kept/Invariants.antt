@@ -4,10 +4,10 @@ use Rattle.search.specs.Parts.{low_bits}
 use Rattle.search.specs.Sweeping.{against}
 use Rattle.search.proofs.order.against_kept.Given as goal
 
-abbrev pub invariant-loop-left : goal.invariant-loop-left
-invariant-loop-left l =
+abbrev pub invariant-loop-stored : goal.invariant-loop-stored
+invariant-loop-stored l =
     (l.place + l.left ≡ l.partial.offset + l.partial.length) ×
-    (against (bits l.key) l.partial.offset (1 ∷ low_bits l.partial.length l.partial.bits) ≡ against (bits l.key) (l.place + 1) (low_bits l.left l.partial.bits))
+    (against (bits l.key) l.partial.offset (1 ∷ low_bits l.partial.length l.partial.bits) ≡ against (bits l.key) l.place (l.stored ∷ low_bits l.left l.partial.bits))
 
-abbrev pub decreases-loop-left : goal.decreases-loop-left
-decreases-loop-left l = l.left
+abbrev pub decreases-loop-stored : goal.decreases-loop-stored
+decreases-loop-stored l = l.left
