@@ -13,6 +13,7 @@ use Rattle.descent.specs.Reading.{Adds, DescentOf, Readable, end_of, records_aft
 use Rattle.descent.specs.declared.descent.Descent.{Descent}
 use Rattle.descent.specs.declared.descent.Ending.{Ending}
 use Rattle.descent.specs.declared.walk.Walked.{Walked}
+use Rattle.growth.specs.Paths.{nodes_of, places_of}
 use Rattle.keys.specs.Digits.{Digits}
 use Rattle.keys.specs.declared.comparison.Comparison.{Comparison}
 use Rattle.nodes.specs.Tables.{held, links, no_node, tree_of}
@@ -22,6 +23,7 @@ use Rattle.search.specs.Seek.{over_at, seek, under_at}
 use Rattle.search.specs.Walk.{rest}
 use Rattle.search.specs.declared.place.Placement.{Placement}
 use Rattle.search.specs.declared.place.Placement.TheVariants.{Found, Place}
+use Rattle.store.specs.declared.reading.Missing.{Missing}
 
 -- the records after the places of a path, from a height up to l
 abbrev pub climb : List Node → (path places : List ℕ) → (bottom l : ℕ) → List ℕ
@@ -55,14 +57,14 @@ module _ (table : List Node) (used : ℕ) (s : Digits) (fetch : ℕ → Option C
     abbrev ts : List (Tree l)
     ts = map (tree_of table l) (links nd)
 
-    climb_on : (y : Result Placement ℕ) → InTurn (length (held nd)) y → (ended (seek s fetch l) (bare l) (held nd) ts b a y).end ≡ end_of x →
+    climb_on : (y : Result Placement Missing) → InTurn (length (held nd)) y → (ended (seek s fetch l) (bare l) (held nd) ts b a y).end ≡ end_of x →
         rest_ended (rest s fetch l) (records l) (bare l) (held nd) ts y ≡ climb table (course_on (course s fetch l) (bare l) l at o ts y).nodes (course_on (course s fetch l) (bare l) l at o ts y).places (course_on (course s fetch l) (bare l) l at o ts y).bottom (suc l)
     climb_on (Ok (Found i)) p eq =
         let path = replicate l 0 ++ (at ∷ []) in
         let ps = replicate l 0 ++ (i ∷ []) in
         sym (climb_more table path ps l l (omega arith) ∙ (ap (λ z. z ++ records_after table l (get_or path l 0) (get_or ps l 0)) (climb_none table path ps l)
         ∙ (ap (λ z. records_after table l z (get_or ps l 0)) (zeros_top l at) ∙ ap (records_after table l at) (zeros_top l i))))
-    climb_on (Err q) p eq = absurd (not_gone q x eq)
+    climb_on (Err q) p eq = absurd (not_gone q.number x eq)
     climb_on (Ok (Place q d)) p eq =
         let kid = get_or ts q (bare l) in
         let child = get_or nd.children q 0 in
@@ -86,26 +88,26 @@ module _ (table : List Node) (used : ℕ) (s : Digits) (fetch : ℕ → Option C
 
 -- of a descent
 module _ (table : List Node) (used l root : ℕ) (s : Digits) (fetch : ℕ → Option Comparison) (d : Descent) (r : Readable table used l root) (w : DescentOf s fetch l (tree_of table l root) d) where
-  path_alike : Alike l (course s fetch l (tree_of table l root) 0).nodes d.nodes
-  path_alike h lt = sym (get_or-take l d.nodes h 0 lt) ∙ ap (λ z. get_or z h 0) w.nodes
+  path_alike : Alike l (course s fetch l (tree_of table l root) 0).nodes (nodes_of d.path)
+  path_alike h lt = sym (get_or-take l (nodes_of d.path) h 0 lt) ∙ ap (λ z. get_or z h 0) w.nodes
 
-  places_alike : Alike l (course s fetch l (tree_of table l root) 0).places d.places
-  places_alike h lt = sym (get_or-take l d.places h 0 lt) ∙ ap (λ z. get_or z h 0) w.places
+  places_alike : Alike l (course s fetch l (tree_of table l root) 0).places (places_of d.path)
+  places_alike h lt = sym (get_or-take l (places_of d.path) h 0 lt) ∙ ap (λ z. get_or z h 0) w.places
 
   pub descent_low : d.bottom ≤ l
   descent_low = omega (arith, w.bottom, low s fetch l (tree_of table l root) 0)
 
-  pub descent_climbs : rest s fetch l (tree_of table l root) 0 ≡ climb table d.nodes d.places d.bottom l
+  pub descent_climbs : rest s fetch l (tree_of table l root) 0 ≡ climb table (nodes_of d.path) (places_of d.path) d.bottom l
   descent_climbs =
       let k = course s fetch l (tree_of table l root) 0 in
       climbs table used s fetch l root None 0 None d.ending r w.end
-      ∙ (ap (λ z. climb table k.nodes k.places z l) (sym w.bottom) ∙ sym (climb_alike table k.nodes d.nodes k.places d.places d.bottom l path_alike places_alike))
+      ∙ (ap (λ z. climb table k.nodes k.places z l) (sym w.bottom) ∙ sym (climb_alike table k.nodes (nodes_of d.path) k.places (places_of d.path) d.bottom l path_alike places_alike))
 
-  pub descent_stands : Stands table used d.nodes d.places d.bottom l
+  pub descent_stands : Stands table used (nodes_of d.path) (places_of d.path) d.bottom l
   descent_stands h lo lt =
       let k = course s fetch l (tree_of table l root) 0 in
       let z = stands table used s fetch l root None 0 None d.ending r w.end h (omega (arith, w.bottom)) lt in
-      subst (λ (z : ℕ). Readable table used (suc h) z × (get_or d.places h 0 ≤ length (held (get_or table z no_node)))) (sym (path_alike h lt))
+      subst (λ (z : ℕ). Readable table used (suc h) z × (get_or (places_of d.path) h 0 ≤ length (held (get_or table z no_node)))) (sym (path_alike h lt))
       (z.0, subst (λ (q : ℕ). q ≤ length (held (get_or table (get_or k.nodes h 0) no_node))) (sym (places_alike h lt)) z.1)
 
 -- a height more

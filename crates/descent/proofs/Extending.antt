@@ -12,6 +12,7 @@ use Rattle.nodes.specs.Trees.{Tree, bare}
 use Rattle.nodes.specs.declared.node.Node.{Node}
 use Rattle.search.specs.declared.place.Placement.{Placement}
 use Rattle.search.specs.declared.place.Placement.TheVariants.{Found, Place}
+use Rattle.store.specs.declared.reading.Missing.{Missing}
 
 -- two lists alike below a height
 abbrev pub Alike : (l : ℕ) → (ps qs : List ℕ) → Type 0
@@ -53,7 +54,7 @@ module _ (s : Digits) (fetch : ℕ → Option Comparison) where
   abbrev Long : ℕ → Type 0
   Long l = (t : Tree l) (o : ℕ) → (length (course s fetch l t o).nodes ≡ l) × (length (course s fetch l t o).places ≡ l)
 
-  long_on : (l : ℕ) → Long l → (at o : ℕ) (ts : List (Tree l)) (x : Result Placement ℕ) →
+  long_on : (l : ℕ) → Long l → (at o : ℕ) (ts : List (Tree l)) (x : Result Placement Missing) →
       (length (course_on (course s fetch l) (bare l) l at o ts x).nodes ≡ suc l) × (length (course_on (course s fetch l) (bare l) l at o ts x).places ≡ suc l)
   long_on l ih at o ts (Ok (Found c)) = (zeros_long l at, zeros_long l c)
   long_on l ih at o ts (Ok (Place q e)) =
@@ -69,7 +70,7 @@ module _ (s : Digits) (fetch : ℕ → Option Comparison) where
   long (suc l) t o = long_on l (long l) t.at o t.kids (turn s fetch t.entries o).to
 
   -- the bottom is no higher than the tree
-  low_on : (l : ℕ) → ((t : Tree l) (o : ℕ) → (course s fetch l t o).bottom ≤ l) → (at o : ℕ) (ts : List (Tree l)) (x : Result Placement ℕ) → (course_on (course s fetch l) (bare l) l at o ts x).bottom ≤ suc l
+  low_on : (l : ℕ) → ((t : Tree l) (o : ℕ) → (course s fetch l t o).bottom ≤ l) → (at o : ℕ) (ts : List (Tree l)) (x : Result Placement Missing) → (course_on (course s fetch l) (bare l) l at o ts x).bottom ≤ suc l
   low_on l ih at o ts (Ok (Found c)) = omega arith
   low_on l ih at o ts (Ok (Place q e)) = omega (arith, ih (get_or ts q (bare l)) e)
   low_on l ih at o ts (Err r) = omega arith

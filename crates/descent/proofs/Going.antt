@@ -1,12 +1,20 @@
 -- Where a descent stands: what was fetched and passed, and what is left of the search.
 use Rattle.std.proofs.Common.{◌≡◌, ℕ, zero, suc, ◌+◌, ◌-◌, ◌%◌, ◌^◌, ◌<◌, ◌≤◌, List, [], ◌∷◌, ◌++◌, map, length, get_or, take, set, replicate, None, Ok, Err, Option, Result, sym, refl, ap, ◌∙◌, subst, arith}
-use Rattle.std.proofs.lemmas.List.{append_assoc, append-nil, get_or-take, length-append, length-set, length-take, take-replicate}
+use Rattle.std.specs.Result.{IsErrAnd}
+use Rattle.std.proofs.lemmas.List.{append_assoc, append-nil, length-append, length-set, map-set, take-replicate}
 use Rattle.descent.proofs.Trailing.{kid_is, readable_kid, readable_old}
 use Rattle.descent.proofs.Turning.{InTurn, ended, joined, seek-turn, turn_within}
 use Rattle.descent.specs.Course.{Course, Turn, course, course_on, turn}
-use Rattle.descent.specs.Reading.{DescentOf, Readable}
+use Rattle.descent.specs.Reading.{DescentOf, Descends, Readable}
+use Rattle.descent.specs.declared.descent.Descent.{Descent}
 use Rattle.descent.specs.declared.descent.Ending.TheVariants.{Found as At, Gap}
+use Rattle.growth.proofs.Pathing.{no_waypoint}
+use Rattle.growth.proofs.Placing.{set_taken}
+use Rattle.growth.specs.Paths.{nodes_of, places_of}
+use Rattle.growth.specs.declared.path.Waypoint.{Waypoint}
 use Rattle.keys.specs.Bits.{bits}
+use Rattle.keys.specs.Digits.{Digits}
+use Rattle.keys.specs.declared.comparison.Comparison.{Comparison}
 use Rattle.nodes.specs.Tables.{Packed, held, links, no_node, tree_of}
 use Rattle.nodes.specs.Trees.{Tree, bare, no_entry}
 use Rattle.nodes.specs.declared.node.Node.{Node}
@@ -17,6 +25,7 @@ use Rattle.search.specs.declared.neighbour.Neighbour.{Neighbour}
 use Rattle.search.specs.declared.place.Placement.{Placement}
 use Rattle.search.specs.declared.place.Placement.TheVariants.{Found, Place}
 use Rattle.store.specs.Meaning.{Lawful, Meaning, after_reads}
+use Rattle.store.specs.declared.reading.Missing.{Missing}
 
 pub reads_none : (m : Meaning) → Lawful m → after_reads 0 m ≡ m
 reads_none m law = let e : (m.tally + 0) % 2 ^ 32 ≡ m.tally = omega (arith, law.wraps) in ap (λ (k : ℕ). let z : Meaning = record { width = m.width; keys = m.keys; capacity = m.capacity; tally = k } in z) e
@@ -25,46 +34,39 @@ pub reads_more : (m : Meaning) (j k : ℕ) → after_reads k (after_reads j m) �
 reads_more m j k =
     let e : ((m.tally + j) % 2 ^ 32 + k) % 2 ^ 32 ≡ (m.tally + (j + k)) % 2 ^ 32 = omega arith in ap (λ (k : ℕ). let z : Meaning = record { width = m.width; keys = m.keys; capacity = m.capacity; tally = k } in z) e
 
--- the entry of a height put into a list that is zero up to it
-set-take : (n : ℕ) (xs : List ℕ) (i v : ℕ) → take n (set xs i v) ≡ set (take n xs) i v
-set-take zero xs i v = refl
-set-take (suc n) [] i v = refl
-set-take (suc n) (x ∷ xs) zero v = refl
-set-take (suc n) (x ∷ xs) (suc i) v = ap (λ zs. x ∷ zs) (set-take n xs i v)
-
 set_zeros : (l v : ℕ) (ys : List ℕ) → set (replicate (suc l) 0 ++ ys) l v ≡ replicate l 0 ++ (v ∷ ys)
 set_zeros zero v ys = refl
 set_zeros (suc l) v ys = ap (λ zs. 0 ∷ zs) (set_zeros l v ys)
 
-put : (n : ℕ) (xs : List ℕ) (l v : ℕ) (ys : List ℕ) → take n xs ≡ replicate (suc l) 0 ++ ys → take n (set xs l v) ≡ replicate l 0 ++ (v ∷ ys)
-put n xs l v ys h = set-take n xs l v ∙ (ap (λ zs. set zs l v) h ∙ set_zeros l v ys)
+-- a waypoint put into a path: what is read of it, which was zero up to its height
+put : (f : Waypoint → ℕ) (n : ℕ) (path : List Waypoint) (l : ℕ) (w : Waypoint) (ys : List ℕ) → take n (map f path) ≡ replicate (suc l) 0 ++ ys → take n (map f (set path l w)) ≡ replicate l 0 ++ (f w ∷ ys)
+put f n path l w ys h = ap (take n) (map-set f path l w) ∙ (set_taken n l (map f path) (f w) ∙ (ap (λ zs. set zs l (f w)) h ∙ set_zeros l (f w) ys))
 
 glue : (xs ys : List ℕ) (z : Sought) → joined xs (joined ys z) ≡ joined (xs ++ ys) z
 glue xs ys z = ap (λ (w : List ℕ). let r : Sought = record { end = z.end; fetched = w } in r) (sym (append_assoc xs ys z.fetched))
 
 -- the course of the whole is what is left, and then the heights passed
-pub record Passed (whole left : Course) (levels level : ℕ) (nodes places : List ℕ) : Type 0 where
+pub record Passed (whole left : Course) (levels level : ℕ) (path : List Waypoint) : Type 0 where
   pub over : List ℕ
   pub over_places : List ℕ
-  pub path : take levels nodes ≡ replicate level 0 ++ over
-  pub ways : take levels places ≡ replicate level 0 ++ over_places
+  pub through : take levels (nodes_of path) ≡ replicate level 0 ++ over
+  pub at_places : take levels (places_of path) ≡ replicate level 0 ++ over_places
   pub same_nodes : whole.nodes ≡ left.nodes ++ over
   pub same_places : whole.places ≡ left.places ++ over_places
   pub same_offset : whole.offset ≡ left.offset
   pub same_bottom : whole.bottom ≡ left.bottom
 
-pub record Going (m₀ m : Meaning) (table : List Node) (key : List ℕ) (levels root level at : ℕ) (b : Option ℕ) (o : ℕ) (a : Option ℕ) (nodes places : List ℕ) : Type 0 where
+pub record Going (m₀ m : Meaning) (table : List Node) (key : List ℕ) (levels root level at : ℕ) (b : Option ℕ) (o : ℕ) (a : Option ℕ) (path : List Waypoint) : Type 0 where
   pub used : ℕ
   pub done : List ℕ
   pub rose : m ≡ after_reads (length done) m₀
   pub search : sought (bits key) (fetching m₀ key) levels (tree_of table levels root) ≡ joined done (seek (bits key) (fetching m₀ key) level (tree_of table level at) b o a)
-  pub passed : Passed (course (bits key) (fetching m₀ key) levels (tree_of table levels root) 0) (course (bits key) (fetching m₀ key) level (tree_of table level at) o) levels level nodes places
+  pub passed : Passed (course (bits key) (fetching m₀ key) levels (tree_of table levels root) 0) (course (bits key) (fetching m₀ key) level (tree_of table level at) o) levels level path
   pub safe : Readable table used level at
   pub upto : level ≤ levels
-  pub path_long : length nodes ≡ 7
-  pub places_long : length places ≡ 7
+  pub long : length path ≡ 7
 
-pub going_start : (m : Meaning) (table : List Node) (key : List ℕ) (used levels root : ℕ) → Lawful m → levels ≤ 7 → Readable table used levels root → Going m m table key levels root levels root None 0 None (replicate 7 0) (replicate 7 0)
+pub going_start : (m : Meaning) (table : List Node) (key : List ℕ) (used levels root : ℕ) → Lawful m → levels ≤ 7 → Readable table used levels root → Going m m table key levels root levels root None 0 None (replicate 7 no_waypoint)
 going_start m table key used levels root law few h =
     let z : take levels (replicate {A = ℕ} 7 0) ≡ replicate levels 0 ++ [] = take-replicate levels 7 0 few ∙ sym (append-nil (replicate levels 0)) in
     let k = course (bits key) (fetching m key) levels (tree_of table levels root) 0 in
@@ -73,41 +75,44 @@ going_start m table key used levels root law few h =
       done = [];
       rose = sym (reads_none m law);
       search = refl;
-      passed = record { over = []; over_places = []; path = z; ways = z; same_nodes = sym (append-nil k.nodes); same_places = sym (append-nil k.places); same_offset = refl; same_bottom = refl };
+      passed = record { over = []; over_places = []; through = z; at_places = z; same_nodes = sym (append-nil k.nodes); same_places = sym (append-nil k.places); same_offset = refl; same_bottom = refl };
       safe = h;
       upto = omega arith;
-      path_long = refl;
-      places_long = refl;
+      long = refl;
     }
 
+-- a search that ends at a record that the store lacks
+pub lost : (s : Digits) (fetch : ℕ → Option Comparison) (l : ℕ) (t : Tree l) (res : Result Descent Missing) (e : Missing) → IsErrAnd res (λ x. x ≡ e) → (sought s fetch l t).end ≡ gone e.number → Descends s fetch l t res
+lost s fetch l t (Ok d) e is h = absurd is
+lost s fetch l t (Err x) e is h = h ∙ ap (λ (z : Missing). gone z.number) (sym is)
+
 -- one level down
-pub level_down : {m₀ m : Meaning} {table : List Node} {key : List ℕ} {levels root level at : ℕ} {b : Option ℕ} {o : ℕ} {a : Option ℕ} {nodes places : List ℕ} →
-    Going m₀ m table key levels root level at b o a nodes places → 0 < level → Going m₀ m table key levels root (suc (level - 1)) at b o a nodes places
-level_down {m₀} {m} {table} {key} {levels} {root} {level} {at} {b} {o} {a} {nodes} {places} g pos =
-    let e : level ≡ suc (level - 1) = omega arith in subst (λ (z : ℕ). Going m₀ m table key levels root z at b o a nodes places) e g
+pub level_down : {m₀ m : Meaning} {table : List Node} {key : List ℕ} {levels root level at : ℕ} {b : Option ℕ} {o : ℕ} {a : Option ℕ} {path : List Waypoint} →
+    Going m₀ m table key levels root level at b o a path → 0 < level → Going m₀ m table key levels root (suc (level - 1)) at b o a path
+level_down {m₀} {m} {table} {key} {levels} {root} {level} {at} {b} {o} {a} {path} g pos =
+    let e : level ≡ suc (level - 1) = omega arith in subst (λ (z : ℕ). Going m₀ m table key levels root z at b o a path) e g
 
 -- at the empty tree
-pub going_end : {m₀ m : Meaning} {table : List Node} {key : List ℕ} {levels root level at : ℕ} {b : Option ℕ} {o : ℕ} {a : Option ℕ} {nodes places : List ℕ} →
-    Going m₀ m table key levels root level at b o a nodes places → level ≡ 0 → (below : Option Neighbour) → below ≡ neighbour b o →
-    DescentOf (bits key) (fetching m₀ key) levels (tree_of table levels root) (record { ending = Gap below a; bottom = 0; nodes = nodes; places = places; offset = o })
+pub going_end : {m₀ m : Meaning} {table : List Node} {key : List ℕ} {levels root level at : ℕ} {b : Option ℕ} {o : ℕ} {a : Option ℕ} {path : List Waypoint} →
+    Going m₀ m table key levels root level at b o a path → level ≡ 0 → (below : Option Neighbour) → below ≡ neighbour b o →
+    DescentOf (bits key) (fetching m₀ key) levels (tree_of table levels root) (record { ending = Gap below a; bottom = 0; path = path; offset = o })
     × (m ≡ after_reads (length (sought (bits key) (fetching m₀ key) levels (tree_of table levels root)).fetched) m₀)
 going_end {level = zero} {a = a} g z below is = (
   record {
     end = ap (λ (x : Sought). x.end) g.search ∙ ap (λ x. gap x a) (sym is);
-    nodes = g.passed.path ∙ sym g.passed.same_nodes;
-    places = g.passed.ways ∙ sym g.passed.same_places;
+    nodes = g.passed.through ∙ sym g.passed.same_nodes;
+    places = g.passed.at_places ∙ sym g.passed.same_places;
     offset = sym g.passed.same_offset;
     bottom = sym g.passed.same_bottom;
-    path_long = g.path_long;
-    places_long = g.places_long;
+    long = g.long;
   },
   g.rose ∙ ap (λ k. after_reads (length k) _) (sym (append-nil g.done) ∙ sym (ap (λ (x : Sought). x.fetched) g.search)),
 )
 going_end {level = suc l} g z below is = absurd (omega arith)
 
 -- the node that a descent has come to
-module _ {m₀ m : Meaning} {table : List Node} {key : List ℕ} {levels root l at : ℕ} {b : Option ℕ} {o : ℕ} {a : Option ℕ} {nodes places : List ℕ}
-    (g : Going m₀ m table key levels root (suc l) at b o a nodes places) where
+module _ {m₀ m : Meaning} {table : List Node} {key : List ℕ} {levels root l at : ℕ} {b : Option ℕ} {o : ℕ} {a : Option ℕ} {path : List Waypoint}
+    (g : Going m₀ m table key levels root (suc l) at b o a path) where
   pub at_old : at < g.used
   at_old = readable_old g.safe
 
@@ -117,7 +122,7 @@ module _ {m₀ m : Meaning} {table : List Node} {key : List ℕ} {levels root l 
   pub same_width : m.width ≡ m₀.width
   same_width = ap (λ (z : Meaning). z.width) g.rose
 
-  module _ (n : Node) (is : n ≡ get_or table at no_node) (x : Result Placement ℕ) (to : x ≡ (turn (bits key) (fetching m key) (held n) o).to) where
+  module _ (n : Node) (is : n ≡ get_or table at no_node) (x : Result Placement Missing) (to : x ≡ (turn (bits key) (fetching m key) (held n) o).to) where
     abbrev nd : Node
     nd = get_or table at no_node
 
@@ -143,8 +148,8 @@ module _ {m₀ m : Meaning} {table : List Node} {key : List ℕ} {levels root l 
     left : course (bits key) (fetching m₀ key) (suc l) (tree_of table (suc l) at) o ≡ course_on (course (bits key) (fetching m₀ key) l) (bare l) l at o (map (tree_of table l) (links nd)) x
     left = ap (course_on (course (bits key) (fetching m₀ key) l) (bare l) l at o (map (tree_of table l) (links nd))) (sym to_now)
 
-    passed_on : Passed (course (bits key) (fetching m₀ key) levels (tree_of table levels root) 0) (course_on (course (bits key) (fetching m₀ key) l) (bare l) l at o (map (tree_of table l) (links nd)) x) levels (suc l) nodes places
-    passed_on = subst (λ (z : Course). Passed (course (bits key) (fetching m₀ key) levels (tree_of table levels root) 0) z levels (suc l) nodes places) left g.passed
+    passed_on : Passed (course (bits key) (fetching m₀ key) levels (tree_of table levels root) 0) (course_on (course (bits key) (fetching m₀ key) l) (bare l) l at o (map (tree_of table l) (links nd)) x) levels (suc l) path
+    passed_on = subst (λ (z : Course). Passed (course (bits key) (fetching m₀ key) levels (tree_of table levels root) 0) z levels (suc l) path) left g.passed
 
     module _ (m' : Meaning) (reads : m' ≡ after_reads (length (turn (bits key) (fetching m key) (held n) o).fetched) m) where
       rose_on : m' ≡ after_reads (length (g.done ++ now_turn.fetched)) m₀
@@ -161,27 +166,26 @@ module _ {m₀ m : Meaning} {table : List Node} {key : List ℕ} {levels root l 
   abbrev Counted : Meaning → Type 0
   Counted m' = m' ≡ after_reads (length (sought (bits key) (fetching m₀ key) levels (tree_of table levels root)).fetched) m₀
 
-  pub going_lost : (n : Node) → n ≡ get_or table at no_node → (r : ℕ) → Err r ≡ (turn (bits key) (fetching m key) (held n) o).to → (m' : Meaning) → Reads n m' →
-      ((sought (bits key) (fetching m₀ key) levels (tree_of table levels root)).end ≡ gone r) × Counted m'
-  going_lost n is r to m' reads = (ap (λ (z : Sought). z.end) (whole n is (Err r) to), counted n is (Err r) to m' reads refl)
+  pub going_lost : (n : Node) → n ≡ get_or table at no_node → (e : Missing) → Err e ≡ (turn (bits key) (fetching m key) (held n) o).to → (m' : Meaning) → Reads n m' →
+      ((sought (bits key) (fetching m₀ key) levels (tree_of table levels root)).end ≡ gone e.number) × Counted m'
+  going_lost n is e to m' reads = (ap (λ (z : Sought). z.end) (whole n is (Err e) to), counted n is (Err e) to m' reads refl)
 
-  pub found_in : (n : Node) → n ≡ get_or table at no_node → (p : Placement) → Ok p ≡ (turn (bits key) (fetching m key) (held n) o).to → (c : ℕ) → p ≡ Found c → c < n.count
-  found_in n is p to c e = let h : c < length (held n) = subst (InNode (length (held n))) e (turn_in n is (Ok p) to) in omega (arith, length-take n.count n.entries)
+  pub found_in : (n : Node) → n ≡ get_or table at no_node → (p : Placement) → Ok p ≡ (turn (bits key) (fetching m key) (held n) o).to → (c : ℕ) → p ≡ Found c → c < length (held n)
+  found_in n is p to c e = subst (InNode (length (held n))) e (turn_in n is (Ok p) to)
 
   pub going_found : (n : Node) → n ≡ get_or table at no_node → (p : Placement) → Ok p ≡ (turn (bits key) (fetching m key) (held n) o).to → (c : ℕ) → p ≡ Found c → (m' : Meaning) → Reads n m' →
-      DescentOf (bits key) (fetching m₀ key) levels (tree_of table levels root) (record { ending = At (get_or n.entries c no_entry).number; bottom = l; nodes = set nodes l at; places = set places l c; offset = o }) × Counted m'
+      DescentOf (bits key) (fetching m₀ key) levels (tree_of table levels root) (record { ending = At (get_or (held n) c no_entry).number; bottom = l; path = set path l (record { node = at; place = c }); offset = o }) × Counted m'
   going_found n is x got c same m' reads =
       let to : Ok (Found c) ≡ (turn (bits key) (fetching m key) (held n) o).to = ap Ok (sym same) ∙ got in
       let p = passed_on n is (Ok (Found c)) to in
-      let e : get_or (held (get_or table at no_node)) c no_entry ≡ get_or n.entries c no_entry = ap (λ (z : Node). get_or (held z) c no_entry) (sym is) ∙ get_or-take n.count n.entries c no_entry (found_in n is x got c same) in (
+      let e : get_or (held (get_or table at no_node)) c no_entry ≡ get_or (held n) c no_entry = ap (λ (z : Node). get_or (held z) c no_entry) (sym is) in (
         record {
           end = ap (λ (z : Sought). z.end) (whole n is (Ok (Found c)) to) ∙ ap (λ z. found z.number) e;
-          nodes = put levels nodes l at p.over p.path ∙ (sym (append_assoc (replicate l 0) (at ∷ []) p.over) ∙ sym p.same_nodes);
-          places = put levels places l c p.over_places p.ways ∙ (sym (append_assoc (replicate l 0) (c ∷ []) p.over_places) ∙ sym p.same_places);
+          nodes = put (λ w. w.node) levels path l (record { node = at; place = c }) p.over p.through ∙ (sym (append_assoc (replicate l 0) (at ∷ []) p.over) ∙ sym p.same_nodes);
+          places = put (λ w. w.place) levels path l (record { node = at; place = c }) p.over_places p.at_places ∙ (sym (append_assoc (replicate l 0) (c ∷ []) p.over_places) ∙ sym p.same_places);
           offset = sym p.same_offset;
           bottom = sym p.same_bottom;
-          path_long = length-set nodes l at ∙ g.path_long;
-          places_long = length-set places l c ∙ g.places_long;
+          long = length-set path l (record { node = at; place = c }) ∙ g.long;
         },
         counted n is (Ok (Found c)) to m' reads refl,
       )
@@ -190,7 +194,7 @@ module _ {m₀ m : Meaning} {table : List Node} {key : List ℕ} {levels root l 
   place_in n is p to q d e = subst (InNode (length (held n))) e (turn_in n is (Ok p) to)
 
   pub going_on : (n : Node) → n ≡ get_or table at no_node → (p : Placement) → Ok p ≡ (turn (bits key) (fetching m key) (held n) o).to → (q d : ℕ) → p ≡ Place q d → (m' : Meaning) → Reads n m' →
-      (x y : Option ℕ) → x ≡ under_at q b (held n) → y ≡ over_at q (held n) a → Going m₀ m' table key levels root l (get_or n.children q 0) x d y (set nodes l at) (set places l q)
+      (x y : Option ℕ) → x ≡ under_at q b (held n) → y ≡ over_at q (held n) a → Going m₀ m' table key levels root l (get_or n.children q 0) x d y (set path l (record { node = at; place = q }))
   going_on n is z got q d same m' reads x y ex ey =
       let to : Ok (Place q d) ≡ (turn (bits key) (fetching m key) (held n) o).to = ap Ok (sym same) ∙ got in
       let nd = get_or table at no_node in
@@ -201,27 +205,26 @@ module _ {m₀ m : Meaning} {table : List Node} {key : List ℕ} {levels root l 
       let ki : kid ≡ tree_of table l child = kid_is table l 0 at g.safe.shape q le in
       let k = course (bits key) (fetching m₀ key) l kid d in
       let top = course (bits key) (fetching m₀ key) levels (tree_of table levels root) 0 in
-      let pass : Passed top k levels l (set nodes l at) (set places l q) = record {
+      let pass : Passed top k levels l (set path l (record { node = at; place = q })) = record {
         over = at ∷ p.over;
         over_places = q ∷ p.over_places;
-        path = put levels nodes l at p.over p.path;
-        ways = put levels places l q p.over_places p.ways;
+        through = put (λ w. w.node) levels path l (record { node = at; place = q }) p.over p.through;
+        at_places = put (λ w. w.place) levels path l (record { node = at; place = q }) p.over_places p.at_places;
         same_nodes = p.same_nodes ∙ append_assoc k.nodes (at ∷ []) p.over;
         same_places = p.same_places ∙ append_assoc k.places (q ∷ []) p.over_places;
         same_offset = p.same_offset;
         same_bottom = p.same_bottom;
       } in
-      let r : Going m₀ m' table key levels root l child (under_at q b (held nd)) d (over_at q (held nd) a) (set nodes l at) (set places l q) = record {
+      let r : Going m₀ m' table key levels root l child (under_at q b (held nd)) d (over_at q (held nd) a) (set path l (record { node = at; place = q })) = record {
         used = g.used;
         done = g.done ++ (turn (bits key) (fetching m₀ key) (held nd) o).fetched;
         rose = rose_on n is (Ok (Place q d)) to m' reads;
         search = whole n is (Ok (Place q d)) to ∙ ap (λ (z : Tree l). joined (g.done ++ (turn (bits key) (fetching m₀ key) (held nd) o).fetched) (seek (bits key) (fetching m₀ key) l z (under_at q b (held nd)) d (over_at q (held nd) a))) ki;
-        passed = subst (λ (z : Tree l). Passed top (course (bits key) (fetching m₀ key) l z d) levels l (set nodes l at) (set places l q)) ki pass;
+        passed = subst (λ (z : Tree l). Passed top (course (bits key) (fetching m₀ key) l z d) levels l (set path l (record { node = at; place = q }))) ki pass;
         safe = readable_kid g.safe q le;
         upto = omega (arith, g.upto);
-        path_long = length-set nodes l at ∙ g.path_long;
-        places_long = length-set places l q ∙ g.places_long;
+        long = length-set path l (record { node = at; place = q }) ∙ g.long;
       } in
-      let rn = subst (λ (z : Node). Going m₀ m' table key levels root l (get_or z.children q 0) (under_at q b (held z)) d (over_at q (held z) a) (set nodes l at) (set places l q)) (sym is) r in
-      subst (λ (z : Option ℕ). Going m₀ m' table key levels root l (get_or n.children q 0) z d y (set nodes l at) (set places l q)) (sym ex)
-      (subst (λ (z : Option ℕ). Going m₀ m' table key levels root l (get_or n.children q 0) (under_at q b (held n)) d z (set nodes l at) (set places l q)) (sym ey) rn)
+      let rn = subst (λ (z : Node). Going m₀ m' table key levels root l (get_or z.children q 0) (under_at q b (held z)) d (over_at q (held z) a) (set path l (record { node = at; place = q }))) (sym is) r in
+      subst (λ (z : Option ℕ). Going m₀ m' table key levels root l (get_or n.children q 0) z d y (set path l (record { node = at; place = q }))) (sym ex)
+      (subst (λ (z : Option ℕ). Going m₀ m' table key levels root l (get_or n.children q 0) (under_at q b (held n)) d z (set path l (record { node = at; place = q }))) (sym ey) rn)

@@ -13,10 +13,11 @@ use Rattle.search.specs.TreeLaw.{fetching}
 use Rattle.search.specs.declared.place.Placement.{Placement}
 use Rattle.search.specs.declared.place.Step.TheVariants.{Ask}
 use Rattle.store.specs.Meaning.{Meaning, after_reads, key_of}
+use Rattle.store.specs.declared.reading.Missing.{Missing}
 
 -- once the candidate's key was fetched and compared
 pub record Told (m m' : Meaning) (key : List ℕ) (es : List Entry) (o : ℕ) (p : Placement) : Type 0 where
-  pub to : ◌≡◌ {A = Result Placement ℕ} (Ok p) (turn (bits key) (fetching m key) es o).to
+  pub to : ◌≡◌ {A = Result Placement Missing} (Ok p) (turn (bits key) (fetching m key) es o).to
   pub reads : m' ≡ after_reads (length (turn (bits key) (fetching m key) es o).fetched) m
 
 pub told : (m m' : Meaning) (key : List ℕ) (es : List Entry) (o high c r : ℕ) (b : List ℕ) (x : Comparison) (p : Placement) →

@@ -24,6 +24,7 @@ use Rattle.search.specs.TreeLaw.{tells}
 use Rattle.search.specs.declared.neighbour.Neighbour.{Neighbour}
 use Rattle.search.specs.declared.place.Placement.{Placement}
 use Rattle.search.specs.declared.place.Placement.TheVariants.{Found, Place}
+use Rattle.store.specs.declared.reading.Missing.{Missing}
 
 base_is : (v : View) (b : Digits) (es : List Entry) (q : ℕ) → q ≤ length es → ladder v b es q ≡ base_at v b es q
 base_is v b [] zero le = refl
@@ -70,7 +71,7 @@ module _ (v : View) (N : ℕ) (s : Digits) (fetch : ℕ → Option Comparison) (
     right o u = turn_right N s fetch es o (ladder v base es) tell (look_right N (length es) o (ladder v base es) (parts_of es) s (strung_node (Tree l) v (Faithful v l) small base c es t.kids f) u)
         (λ i lt. (woven_entry (λ r. fetch r ≡ Some (tell r)) i es fs many lt hand, subst (λ k. Tells N s k (tell (get_or es i no_entry).number)) (sym (ladder_key v base es i lt)) (told (get_or es i no_entry).number)))
 
-    on : (b : Option ℕ) (o : ℕ) (a : Option ℕ) (below : Option Neighbour) (above : Option ℕ) → Under c s → (x : Result Placement ℕ) → TurnsRight N (length es) (ladder v base es) s x → (ended (seek s fetch l) (bare l) es t.kids b a x).end ≡ gap below above →
+    on : (b : Option ℕ) (o : ℕ) (a : Option ℕ) (below : Option Neighbour) (above : Option ℕ) → Under c s → (x : Result Placement Missing) → TurnsRight N (length es) (ladder v base es) s x → (ended (seek s fetch l) (bare l) es t.kids b a x).end ≡ gap below above →
         Route v (suc l) base c t (course_on (course s fetch l) (bare l) l t.at o t.kids x).places s (course_on (course s fetch l) (bare l) l t.at o t.kids x).offset
     on b o a below above w (Ok (Found i)) p eq = absurd (let z : ◌≡◌ {A = ℕ} 0 1 = cc in omega arith)
     on b o a below above w (Err r) p eq = absurd p
@@ -100,7 +101,7 @@ module _ (s : Digits) (fetch : ℕ → Option Comparison) where
   abbrev Inside : ℕ → Type 0
   Inside l = (t : Tree l) (b : Option ℕ) (o : ℕ) (a : Option ℕ) (below : Option Neighbour) (above : Option ℕ) → (seek s fetch l t b o a).end ≡ gap below above → Within (course s fetch l t o).places l t
 
-  inside_on : (l : ℕ) → Inside l → (t : Tree (suc l)) (b : Option ℕ) (o : ℕ) (a : Option ℕ) (below : Option Neighbour) (above : Option ℕ) (x : Result Placement ℕ) → InTurn (length t.entries) x →
+  inside_on : (l : ℕ) → Inside l → (t : Tree (suc l)) (b : Option ℕ) (o : ℕ) (a : Option ℕ) (below : Option Neighbour) (above : Option ℕ) (x : Result Placement Missing) → InTurn (length t.entries) x →
       (ended (seek s fetch l) (bare l) t.entries t.kids b a x).end ≡ gap below above → Within (course_on (course s fetch l) (bare l) l t.at o t.kids x).places (suc l) t
   inside_on l ih t b o a below above (Ok (Found i)) p eq = absurd (let z : ◌≡◌ {A = ℕ} 0 1 = cc in omega arith)
   inside_on l ih t b o a below above (Err r) p eq = absurd (let z : ◌≡◌ {A = ℕ} 0 1 = cc in omega arith)

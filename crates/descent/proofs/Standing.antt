@@ -19,6 +19,7 @@ use Rattle.search.specs.Seek.{gap, gone, over_at, seek, under_at}
 use Rattle.search.specs.declared.neighbour.Neighbour.{Neighbour}
 use Rattle.search.specs.declared.place.Placement.{Placement}
 use Rattle.search.specs.declared.place.Placement.TheVariants.{Found, Place}
+use Rattle.store.specs.declared.reading.Missing.{Missing}
 
 pub not_gone : (q : ℕ) (y : Ending) → gone q ≡ end_of y → ⊥
 not_gone q (At z) eq = let z : ◌≡◌ {A = ℕ} 0 1 = cc in omega arith
@@ -46,10 +47,10 @@ module _ (table : List Node) (used : ℕ) (s : Digits) (fetch : ℕ → Option C
         subst (λ (z : ℕ). Readable table used (suc z) (get_or path z 0) × (get_or ps z 0 ≤ length (held (get_or table (get_or path z 0) no_node)))) (sym is)
         (subst (λ (z : ℕ). Readable table used (suc l) z × (get_or ps l 0 ≤ length (held (get_or table z no_node)))) (sym pe) (r, omega arith))
 
-    stand_on : (y : Result Placement ℕ) → InTurn (length (held nd)) y → (ended (seek s fetch l) (bare l) (held nd) ts b a y).end ≡ end_of x →
+    stand_on : (y : Result Placement Missing) → InTurn (length (held nd)) y → (ended (seek s fetch l) (bare l) (held nd) ts b a y).end ≡ end_of x →
         Stands table used (course_on (course s fetch l) (bare l) l at o ts y).nodes (course_on (course s fetch l) (bare l) l at o ts y).places (course_on (course s fetch l) (bare l) l at o ts y).bottom (suc l)
     stand_on (Ok (Found i)) p eq h lo lt = here (replicate l 0 ++ (at ∷ [])) (replicate l 0 ++ (i ∷ [])) i (zeros_top l at) (zeros_top l i) (omega arith) h (omega arith)
-    stand_on (Err q) p eq h lo lt = absurd (not_gone q x eq)
+    stand_on (Err q) p eq h lo lt = absurd (not_gone q.number x eq)
     stand_on (Ok (Place q d)) p eq h lo lt =
         let kid = get_or ts q (bare l) in
         let child = get_or nd.children q 0 in
@@ -74,7 +75,7 @@ module _ (s : Digits) (fetch : ℕ → Option Comparison) (below : Option Neighb
   abbrev Low : ℕ → Type 0
   Low l = (t : Tree l) (b : Option ℕ) (o : ℕ) (a : Option ℕ) → (seek s fetch l t b o a).end ≡ gap below above → (course s fetch l t o).bottom ≡ 0
 
-  low_on : (l : ℕ) → Low l → (t : Tree (suc l)) (b : Option ℕ) (o : ℕ) (a : Option ℕ) (x : Result Placement ℕ) → (ended (seek s fetch l) (bare l) t.entries t.kids b a x).end ≡ gap below above →
+  low_on : (l : ℕ) → Low l → (t : Tree (suc l)) (b : Option ℕ) (o : ℕ) (a : Option ℕ) (x : Result Placement Missing) → (ended (seek s fetch l) (bare l) t.entries t.kids b a x).end ≡ gap below above →
       (course_on (course s fetch l) (bare l) l t.at o t.kids x).bottom ≡ 0
   low_on l ih t b o a (Ok (Found i)) eq = absurd (let z : ◌≡◌ {A = ℕ} 0 1 = cc in omega arith)
   low_on l ih t b o a (Err r) eq = absurd (let z : ◌≡◌ {A = ℕ} 0 1 = cc in omega arith)

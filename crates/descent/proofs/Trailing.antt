@@ -21,6 +21,7 @@ use Rattle.search.specs.Seek.{gap, over_at, seek, under_at}
 use Rattle.search.specs.declared.neighbour.Neighbour.{Neighbour}
 use Rattle.search.specs.declared.place.Placement.{Placement}
 use Rattle.search.specs.declared.place.Placement.TheVariants.{Found, Place}
+use Rattle.store.specs.declared.reading.Missing.{Missing}
 
 -- the kid under a place of a node, in the table
 module _ (table : List Node) (l least at : ℕ) (h : shaped (suc l) least (tree_of table (suc l) at) ≡ true) where
@@ -77,7 +78,7 @@ module _ (table : List Node) (s : Digits) (fetch : ℕ → Option Comparison) wh
     abbrev ts : List (Tree l)
     ts = map (tree_of table l) (links nd)
 
-    trail_on : (x : Result Placement ℕ) → InTurn (length (held nd)) x → (ended (seek s fetch l) (bare l) (held nd) ts b a x).end ≡ gap below above →
+    trail_on : (x : Result Placement Missing) → InTurn (length (held nd)) x → (ended (seek s fetch l) (bare l) (held nd) ts b a x).end ≡ gap below above →
         Trail table (course_on (course s fetch l) (bare l) l at o ts x).nodes (course_on (course s fetch l) (bare l) l at o ts x).places (suc l) at
     trail_on (Ok (Found i)) p eq = absurd (let z : ◌≡◌ {A = ℕ} 0 1 = cc in omega arith)
     trail_on (Err r) p eq = absurd (let z : ◌≡◌ {A = ℕ} 0 1 = cc in omega arith)

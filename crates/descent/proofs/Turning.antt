@@ -14,17 +14,18 @@ use Rattle.search.specs.Walk.{rest, rest_answered, rest_onward, rest_stepped}
 use Rattle.search.specs.declared.place.Placement.{Placement}
 use Rattle.search.specs.declared.place.Step.{Step}
 use Rattle.search.specs.declared.place.Step.TheVariants.{Ask, Known}
+use Rattle.store.specs.declared.reading.Missing.{Missing}
 
 -- a search with the records fetched before it
 abbrev pub joined : List ℕ → Sought → Sought
 joined done x = record { end = x.end; fetched = done ++ x.fetched }
 
 -- on from a turn
-abbrev pub ended : {T : Type 0} → (T → Option ℕ → ℕ → Option ℕ → Sought) → T → List Entry → List T → Option ℕ → Option ℕ → Result Placement ℕ → Sought
+abbrev pub ended : {T : Type 0} → (T → Option ℕ → ℕ → Option ℕ → Sought) → T → List Entry → List T → Option ℕ → Option ℕ → Result Placement Missing → Sought
 ended down d es ts b a (Ok p) = onward down d es ts b a p
-ended down d es ts b a (Err r) = record { end = gone r; fetched = [] }
+ended down d es ts b a (Err e) = record { end = gone e.number; fetched = [] }
 
-abbrev pub rest_ended : {T : Type 0} → (T → ℕ → List ℕ) → (T → List ℕ) → T → List Entry → List T → Result Placement ℕ → List ℕ
+abbrev pub rest_ended : {T : Type 0} → (T → ℕ → List ℕ) → (T → List ℕ) → T → List Entry → List T → Result Placement Missing → List ℕ
 rest_ended down f d es ts (Ok p) = rest_onward down f d es ts p
 rest_ended down f d es ts (Err r) = []
 
@@ -55,7 +56,7 @@ module _ (s : Digits) (fetch : ℕ → Option Comparison) where
       go (Ask high c) = hear (settled (parts_of t.entries) high c) (get_or t.entries c no_entry).number (fetch (get_or t.entries c no_entry).number)
 
 -- a turn leads to a place of its node
-abbrev pub InTurn : ℕ → Result Placement ℕ → Type 0
+abbrev pub InTurn : ℕ → Result Placement Missing → Type 0
 InTurn n (Ok p) = InNode n p
 InTurn n (Err r) = Unit {0}
 
@@ -71,7 +72,7 @@ turn_within s fetch es o = go (looked s (parts_of es) (length es) o) (looked_wit
     go (Ask high c) h = hear high c (get_or es c no_entry).number h (fetch (get_or es c no_entry).number)
 
 -- and of a true node, whose records are at hand, to the right one
-abbrev pub TurnsRight : (N n : ℕ) → (ℕ → Digits) → Digits → Result Placement ℕ → Type 0
+abbrev pub TurnsRight : (N n : ℕ) → (ℕ → Digits) → Digits → Result Placement Missing → Type 0
 TurnsRight N n k s (Ok p) = Right N n k s p
 TurnsRight N n k s (Err r) = ⊥
 

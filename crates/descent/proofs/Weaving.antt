@@ -1,6 +1,6 @@
 -- The records of a node and of the trees under it, one after the other.
-use Rattle.std.proofs.Common.{◌≡◌, ℕ, zero, suc, ◌+◌, ◌-◌, ◌<◌, ◌≤◌, List, [], ◌∷◌, ◌++◌, map, length, get_or, take, sym, refl, ap, ◌∙◌, subst, arith}
-use Rattle.std.proofs.lemmas.List.{append_assoc, append-nil, get_or-map, get_or-take, length-map, take_all}
+use Rattle.std.proofs.Common.{◌≡◌, ℕ, zero, suc, ◌+◌, ◌-◌, ◌<◌, ◌≤◌, min, List, [], ◌∷◌, ◌++◌, map, length, get_or, take, drop, sym, refl, ap, ◌∙◌, subst, arith}
+use Rattle.std.proofs.lemmas.List.{append_assoc, append-nil, get_or-drop, get_or-map, get_or-take, length-drop, length-map, length-take, take_all}
 use Rattle.descent.proofs.Filling.{add_more, add_none}
 use Rattle.descent.proofs.Trailing.{links_long, readable_kid, readable_old}
 use Rattle.descent.specs.Reading.{Adds, Readable, records_after}
@@ -101,8 +101,37 @@ module _ {table : List Node} {used l at : ℕ} {n : Node} (a : At table used l a
       ∙ (weave_first (held n) (lists table l n) (omega (arith, at_lists)) ∙ (ap (λ z. z ++ after_place 0 (held n) (lists table l n)) (list_at 0 (omega arith) (omega arith))
       ∙ ap (λ es. records l (tree_of table l (get_or n.children 0 0)) ++ after_place 0 es (lists table l n)) (sym (take_all k (held n) (omega arith)))))
 
+  -- a loop over the entries from a place on, each with the child after it, comes to the node's end
+  pub turns_all : (q m b f : ℕ) → q ≤ length (held n) → f ≡ q → b ≡ n.count → n.count ≡ length (held n) → m ≡ min (length (take (b - f) (drop f n.entries))) (length (take (b + 1 - (f + 1)) (drop (f + 1) n.children))) → q + m ≡ n.count
+  turns_all q m b f le fs bs long e =
+      let x = length-take (b - f) (drop f n.entries) in
+      let y = length-drop f n.entries in
+      let z = length-take (b + 1 - (f + 1)) (drop (f + 1) n.children) in
+      let u = length-drop (f + 1) n.children in
+      let v = length-take n.count n.entries in
+      let w = length-take (n.count + 1) n.children in
+      omega (arith, at_links)
+
 pub part_none : (table : List Node) (l : ℕ) (n : Node) (q : ℕ) → part table l n q q ≡ []
 part_none table l n q = after_none q (held n) (lists table l n)
+
+-- the turn k of a loop over the entries of a node from its place q on, each with the child after it
+pub record TurnAt (n : Node) (q k : ℕ) (e : Entry) (child : ℕ) : Type 0 where
+  pub within : q + k < n.count
+  pub entry : e ≡ get_or n.entries (q + k) no_entry
+  pub kid : child ≡ get_or n.children (q + k + 1) 0
+
+pub turn_at : (n : Node) (q k b f : ℕ) (e : Entry) (child : ℕ) → f ≡ q → b ≡ n.count → k < length (take (b - f) (drop f n.entries)) → k < length (take (b + 1 - (f + 1)) (drop (f + 1) n.children)) →
+    ((d : Entry) → e ≡ get_or (take (b - f) (drop f n.entries)) k d) → ((d : ℕ) → child ≡ get_or (take (b + 1 - (f + 1)) (drop (f + 1) n.children)) k d) → TurnAt n q k e child
+turn_at n q k b f e child qs bs le lc he hc =
+    let x : k < b - f = omega (arith, length-take (b - f) (drop f n.entries)) in
+    let y : k < b + 1 - (f + 1) = omega arith in
+    let z : f + 1 + k ≡ q + k + 1 = omega arith in
+    record {
+      within = omega arith;
+      entry = he no_entry ∙ (get_or-take (b - f) (drop f n.entries) k no_entry x ∙ (get_or-drop f n.entries k no_entry ∙ ap (λ j. get_or n.entries (j + k) no_entry) qs));
+      kid = hc 0 ∙ (get_or-take (b + 1 - (f + 1)) (drop (f + 1) n.children) k 0 y ∙ (get_or-drop (f + 1) n.children k 0 ∙ ap (λ j. get_or n.children j 0) z));
+    }
 
 -- as the code counts levels
 pub at_down : {table : List Node} {used level at : ℕ} {n : Node} → Readable table used level at → 0 < level → n ≡ get_or table at no_node → At table used (level - 1) at n

@@ -10,15 +10,16 @@ use Rattle.search.specs.declared.place.Placement.{Placement}
 use Rattle.search.specs.declared.place.Placement.TheVariants.{Found, Place}
 use Rattle.search.specs.declared.place.Step.{Step}
 use Rattle.search.specs.declared.place.Step.TheVariants.{Ask, Known}
+use Rattle.store.specs.declared.reading.Missing.{Missing}
 
 -- What a search makes of a node: the placement of its key, or the record that the store lacks; and the record fetched for
 -- that, if one is.
 pub record Turn : Type 0 where
-  pub to : Result Placement ℕ
+  pub to : Result Placement Missing
   pub fetched : List ℕ
 
 abbrev pub heard : (Comparison → Placement) → ℕ → Option Comparison → Turn
-heard on r None = record { to = Err r; fetched = [] }
+heard on r None = record { to = Err (record { number = r }); fetched = [] }
 heard on r (Some x) = record { to = Ok (on x); fetched = r ∷ [] }
 
 abbrev pub turned : (ℕ → Option Comparison) → List Entry → Step → Turn
@@ -43,7 +44,7 @@ through at q below = record { nodes = below.nodes ++ (at ∷ []); places = below
 abbrev pub ends_at : (l at c o : ℕ) → Course
 ends_at l at c o = record { nodes = replicate l 0 ++ (at ∷ []); places = replicate l 0 ++ (c ∷ []); offset = o; bottom = l }
 
-abbrev pub course_on : {T : Type 0} → (T → ℕ → Course) → T → (l at o : ℕ) → List T → Result Placement ℕ → Course
+abbrev pub course_on : {T : Type 0} → (T → ℕ → Course) → T → (l at o : ℕ) → List T → Result Placement Missing → Course
 course_on down d l at o ts (Ok (Found c)) = ends_at l at c o
 course_on down d l at o ts (Ok (Place q e)) = through at q (down (slice_index_or ts q d) e)
 course_on down d l at o ts (Err r) = ends_at l at 0 o

@@ -5,6 +5,7 @@ use Rattle.descent.specs.declared.descent.Descent.{Descent}
 use Rattle.descent.specs.declared.descent.Ending.{Ending}
 use Rattle.descent.specs.declared.descent.Ending.TheVariants.{Found, Gap}
 use Rattle.descent.specs.declared.walk.Walked.{Walked}
+use Rattle.growth.specs.Paths.{nodes_of, places_of}
 use Rattle.keys.specs.Digits.{Digits}
 use Rattle.keys.specs.declared.comparison.Comparison.{Comparison}
 use Rattle.nodes.specs.Tables.{Packed, held, links, no_node, reached, tree_of}
@@ -12,6 +13,7 @@ use Rattle.nodes.specs.Trees.{Tree, records, shaped}
 use Rattle.nodes.specs.declared.node.Node.{Node}
 use Rattle.search.specs.Seek.{End, found, gap, gone, sought}
 use Rattle.search.specs.Walk.{after_place}
+use Rattle.store.specs.declared.reading.Missing.{Missing}
 
 -- What a tree of a table has to be for it to be read: of lawful shape, its nodes in use, and every node in use packed.
 pub record Readable (table : List Node) (used level at : ℕ) : Type 0 where
@@ -27,17 +29,16 @@ end_of (Gap below above) = gap below above
 -- A descent is the one of the search for s in a tree: it ends as the search does, by the same course.
 pub record DescentOf (s : Digits) (fetch : ℕ → Option Comparison) (l : ℕ) (t : Tree l) (d : Descent) : Type 0 where
   pub end : (sought s fetch l t).end ≡ end_of d.ending
-  pub nodes : take l d.nodes ≡ (course s fetch l t 0).nodes
-  pub places : take l d.places ≡ (course s fetch l t 0).places
+  pub nodes : take l (nodes_of d.path) ≡ (course s fetch l t 0).nodes
+  pub places : take l (places_of d.path) ≡ (course s fetch l t 0).places
   pub offset : d.offset ≡ (course s fetch l t 0).offset
   pub bottom : d.bottom ≡ (course s fetch l t 0).bottom
-  pub path_long : length d.nodes ≡ 7
-  pub places_long : length d.places ≡ 7
+  pub long : length d.path ≡ 7
 
 -- or the record that the store lacks
-abbrev pub Descends : (s : Digits) → (fetch : ℕ → Option Comparison) → (l : ℕ) → Tree l → Result Descent ℕ → Type 0
+abbrev pub Descends : (s : Digits) → (fetch : ℕ → Option Comparison) → (l : ℕ) → Tree l → Result Descent Missing → Type 0
 Descends s fetch l t (Ok d) = DescentOf s fetch l t d
-Descends s fetch l t (Err r) = (sought s fetch l t).end ≡ gone r
+Descends s fetch l t (Err e) = (sought s fetch l t).end ≡ gone e.number
 
 -- A list is filled with the first of some records, as many as it has places for; the places beyond stay as they were. There
 -- are more exactly if not all of them had a place.

@@ -3,22 +3,24 @@ ghost use Rattle.descent.specs.Course.{turn};
 ghost use Rattle.descent.specs.Reading.{Descends, Readable};
 ghost use Rattle.growth.specs.Commits.{tree_at};
 ghost use Rattle.keys.specs.Bits.{bits};
-ghost use Rattle.nodes.specs.Tables.{held};
 ghost use Rattle.search.specs.Seek.{sought};
 ghost use Rattle.search.specs.TreeLaw.{fetching};
 ghost use Rattle.store.specs.Meaning.{after_reads};
 
 use growth::commit::{Top, node_at};
+use growth::path::Waypoint;
 use keys::comparison::compare;
-use nodes::node::Node;
+use keys::key::WIDEST;
+use nodes::node::{Entry, Node};
 use search::neighbour::{Neighbour, neighbour_at, record_over, record_under};
 use search::place::{Placement, Step, look, settle};
-use store::reading::ReadingStore;
+use store::reading::{Missing, ReadingStore};
 
 /// The most levels of a tree.
 pub const MOST_LEVELS: usize = 7;
 
 /// How a search ends: at the record of equal key, or in a gap, between the records on its two sides.
+// Kept: neither is a failure, so a `Result` would let `?` leave at one of them.
 #[derive(Clone, Copy)]
 pub enum Ending {
     Found(u16),
@@ -28,14 +30,14 @@ pub enum Ending {
     },
 }
 
-/// A search down a tree: how it ended, at which height, and by height the nodes that it went through and its places in them.
-/// The offset is that of the search key to the key before its place.
+/// A search down a tree: how it ended, at which height, and the path that it took. The offset is that of the search key to the
+/// key before its place.
 #[derive(Clone, Copy)]
 pub struct Descent {
     pub ending: Ending,
     pub bottom: u8,
-    pub nodes: [u16; 7],
-    pub places: [u8; 7],
+    // Kept: fixed memory, with no heap, for as many levels as a tree can have.
+    pub path: [Waypoint; MOST_LEVELS],
     pub offset: u16,
 }
 
@@ -46,81 +48,70 @@ const NOTHING_PASSED: Descent = Descent {
         above: None,
     },
     bottom: 0,
-    nodes: [0; MOST_LEVELS],
-    places: [0; MOST_LEVELS],
+    path: [Waypoint { node: 0, place: 0 }; MOST_LEVELS],
     offset: 0,
 };
 
-// One node of a search, with at most one key fetched. `offset` is that of the search key to the node's base.
+// A search among the entries of one node, with at most one key fetched. `offset` is that of the search key to the node's base.
 fn look_through<S: ReadingStore>(
-    node: &Node,
+    entries: &[Entry],
     store: &mut S,
     key: &[u8],
     buffer: &mut [u8],
     offset: u16,
-) -> Result<Placement, u16>
-    requires few { node.now.count ≤ 7 }
+) -> Result<Placement, Missing>
     requires width { length key.now ≡ (S.ReadingStore.meaning store.old).width }
     requires room { length buffer.old ≡ (S.ReadingStore.meaning store.old).width }
-    ensures to { result ≡ (turn (bits key.now) (fetching (S.ReadingStore.meaning store.old) key.now) (held node.now) offset).to }
-    ensures reads { S.ReadingStore.meaning store.new ≡ after_reads (length (turn (bits key.now) (fetching (S.ReadingStore.meaning store.old) key.now) (held node.now) offset).fetched) (S.ReadingStore.meaning store.old) }
+    ensures to { result ≡ (turn (bits key.now) (fetching (S.ReadingStore.meaning store.old) key.now) entries.now offset).to }
+    ensures reads { S.ReadingStore.meaning store.new ≡ after_reads (length (turn (bits key.now) (fetching (S.ReadingStore.meaning store.old) key.now) entries.now offset).fetched) (S.ReadingStore.meaning store.old) }
 {
-    let entries = &node.entries[..node.count as usize];
     match look(entries, key, offset) {
         Step::Known { place, offset } => Ok(Placement::Place { place, offset }),
         Step::Ask { high, candidate } => {
             let number = entries[candidate].number;
-            let Ok(_) = store.fetch(number, buffer) else {
-                return Err(number);
-            };
-            let Some(comparison) = compare(key, buffer) else {
-                return Err(number);
-            };
+            store.fetch(number, buffer).map_err(|_| Missing { number })?;
+            let comparison = compare(key, buffer).ok_or(Missing { number })?;
             Ok(settle(entries, high, candidate, comparison))
         }
     }
 }
 
-/// The search for a key, from the root down, with its course; or the record that it must fetch and the store lacks.
+/// The search for a key, from the root down, with its path; or the record that it must fetch and the store lacks.
 pub fn descend<S: ReadingStore>(
-    table: &Vec<Node>,
+    table: &[Node],
     top: Top,
     store: &mut S,
     key: &[u8],
-    buffer: &mut [u8],
-) -> Result<Descent, u16>
+) -> Result<Descent, Missing>
     requires deep { top.levels ≤ 7 }
-    requires readable { Readable table.now.items top.used top.levels top.root }
+    requires readable { Readable table.now top.used top.levels top.root }
     requires width { length key.now ≡ (S.ReadingStore.meaning store.old).width }
-    requires room { length buffer.old ≡ (S.ReadingStore.meaning store.old).width }
-    ensures search { Descends (bits key.now) (fetching (S.ReadingStore.meaning store.old) key.now) top.levels (tree_at table.now.items top) result }
-    ensures reads { S.ReadingStore.meaning store.new ≡ after_reads (length (sought (bits key.now) (fetching (S.ReadingStore.meaning store.old) key.now) top.levels (tree_at table.now.items top)).fetched) (S.ReadingStore.meaning store.old) }
+    ensures search { Descends (bits key.now) (fetching (S.ReadingStore.meaning store.old) key.now) top.levels (tree_at table.now top) result }
+    ensures reads { S.ReadingStore.meaning store.new ≡ after_reads (length (sought (bits key.now) (fetching (S.ReadingStore.meaning store.old) key.now) top.levels (tree_at table.now top)).fetched) (S.ReadingStore.meaning store.old) }
 {
-    let (mut level, mut at) = (top.levels, top.root);
+    let mut buffer = [0; WIDEST];
+    let buffer = &mut buffer[..key.len()];
+    let mut at = top.root;
     let (mut below, mut above) = (None, None);
     let mut descent = NOTHING_PASSED;
-    while level > 0 {
-        level -= 1;
+    for level in (0..top.levels).rev() {
         let n = node_at(table, at);
-        descent.nodes[level as usize] = at;
-        let placement = match look_through(&n, store, key, buffer, descent.offset) {
-            Ok(placement) => placement,
-            Err(missing) => return Err(missing),
-        };
-        match placement {
+        let entries = &n.entries[..usize::from(n.count)];
+        match look_through(entries, store, key, buffer, descent.offset)? {
             Placement::Found(c) => {
-                descent.places[level as usize] = c as u8;
+                let place = c as u8;
+                descent.path[usize::from(level)] = Waypoint { node: at, place };
                 descent.bottom = level;
-                descent.ending = Ending::Found(n.entries[c].number);
+                descent.ending = Ending::Found(entries[c].number);
                 return Ok(descent);
             }
-            Placement::Place { place, offset } => {
-                descent.places[level as usize] = place as u8;
+            Placement::Place { place: i, offset } => {
+                let place = i as u8;
+                descent.path[usize::from(level)] = Waypoint { node: at, place };
                 descent.offset = offset;
-                let entries = &n.entries[..n.count as usize];
-                below = record_under(entries, place, below);
-                above = record_over(entries, place, above);
-                at = n.children[place];
+                below = record_under(entries, i, below);
+                above = record_over(entries, i, above);
+                at = n.children[i];
             }
         }
     }

@@ -1,17 +1,19 @@
-ghost use Rattle.std.specs.Prelude.{ℕ, ◌+◌, ◌≤◌, [], ◌∷◌, length, Option, slice_index_or};
+ghost use Rattle.std.specs.Prelude.{ℕ, ◌-◌, ◌≤◌, [], ◌∷◌, length, Option, slice_index_or};
 ghost use Rattle.descent.specs.Reading.{Adds, DescentOf, Filled, Readable, records_after};
 ghost use Rattle.growth.specs.Commits.{tree_at};
 ghost use Rattle.keys.specs.Digits.{Digits};
 ghost use Rattle.keys.specs.declared.comparison.Comparison.{Comparison};
-ghost use Rattle.nodes.specs.Tables.{held, no_node, tree_of};
+ghost use Rattle.nodes.specs.Tables.{held, no_node};
 ghost use Rattle.nodes.specs.Trees.{records};
 ghost use Rattle.search.specs.Walk.{rest};
 
 use crate::descent::Descent;
 use growth::commit::{Top, node_at};
+use growth::path::Waypoint;
 use nodes::node::Node;
 
 /// How many records a walk gave, and whether there are more.
+// Kept: both are told, whatever the other is, so `more` is no mark of whether `count` is there.
 #[derive(Clone, Copy)]
 pub struct Walked {
     pub count: usize,
@@ -35,67 +37,80 @@ fn put_record(list: &mut [u16], so_far: Walked, number: u16) -> Walked
 }
 
 // Adds the records of a whole tree.
-fn walk_below(
-    table: &Vec<Node>,
-    used: u16,
-    level: u8,
-    at: u16,
-    list: &mut [u16],
-    so_far: Walked,
-) -> Walked
-    requires { Readable table.now.items used level at }
-    ensures { Adds (records level (tree_of table.now.items level at)) list.old so_far list.new result }
+#[cycle(walk)]
+fn walk_below(table: &[Node], top: Top, list: &mut [u16], so_far: Walked) -> Walked
+    requires { Readable table.now top.used top.levels top.root }
+    ensures { Adds (records top.levels (tree_at table.now top)) list.old so_far list.new result }
 {
-    if level == 0 || so_far.more {
+    if top.levels == 0 || so_far.more {
         return so_far;
     }
-    let n = node_at(table, at);
-    let mut walked = walk_below(table, used, level - 1, n.children[0], list, so_far);
-    for k in 0..n.count as usize {
-        walked = put_record(list, walked, n.entries[k].number);
-        walked = walk_below(table, used, level - 1, n.children[k + 1], list, walked);
-    }
-    walked
+    let root = node_at(table, top.root).children[0];
+    let levels = top.levels - 1;
+    let walked = walk_below(
+        table,
+        Top {
+            levels,
+            root,
+            ..top
+        },
+        list,
+        so_far,
+    );
+    walk_after(table, top, 0, list, walked)
 }
 
-// Adds the records after a place of a node with so many levels under it.
-fn walk_after(
-    table: &Vec<Node>,
-    used: u16,
-    level: u8,
-    at: u16,
-    place: u8,
-    list: &mut [u16],
-    so_far: Walked,
-) -> Walked
-    requires readable { Readable table.now.items used (level + 1) at }
-    requires within { place ≤ length (held (slice_index_or table.now.items at no_node)) }
-    ensures { Adds (records_after table.now.items level at place) list.old so_far list.new result }
+// Adds the records after a place of a tree's root.
+#[cycle(walk)]
+fn walk_after(table: &[Node], top: Top, place: u8, list: &mut [u16], so_far: Walked) -> Walked
+    requires some { 1 ≤ top.levels }
+    requires readable { Readable table.now top.used top.levels top.root }
+    requires within { place ≤ length (held (slice_index_or table.now top.root no_node)) }
+    ensures { Adds (records_after table.now (top.levels - 1) top.root place) list.old so_far list.new result }
 {
-    let n = node_at(table, at);
+    let n = node_at(table, top.root);
+    let levels = top.levels - 1;
+    let (first, end) = (usize::from(place), usize::from(n.count));
+    let entries = &n.entries[first..end];
+    let children = &n.children[first + 1..=end];
     let mut walked = so_far;
-    for k in place as usize..n.count as usize {
-        walked = put_record(list, walked, n.entries[k].number);
-        walked = walk_below(table, used, level, n.children[k + 1], list, walked);
+    for (entry, &root) in entries.iter().zip(children) {
+        walked = put_record(list, walked, entry.number);
+        walked = walk_below(
+            table,
+            Top {
+                levels,
+                root,
+                ..top
+            },
+            list,
+            walked,
+        );
     }
     walked
 }
 
 /// The first records from where a search ended, the one found or the one above the gap, in ascending order, as many as the list
 /// has places for.
-pub fn walk(table: &Vec<Node>, top: Top, descent: &Descent, list: &mut [u16]) -> Walked
+pub fn walk(table: &[Node], top: Top, descent: &Descent, list: &mut [u16]) -> Walked
     requires deep { top.levels ≤ 7 }
-    requires readable { Readable table.now.items top.used top.levels top.root }
-    requires searched { (s : Digits) × ((fetch : ℕ → Option Comparison) × DescentOf s fetch top.levels (tree_at table.now.items top) descent.now) }
-    ensures { (s : Digits) (fetch : ℕ → Option Comparison) → DescentOf s fetch top.levels (tree_at table.now.items top) descent.now → Filled list.old (rest s fetch top.levels (tree_at table.now.items top) 0) list.new result }
+    requires readable { Readable table.now top.used top.levels top.root }
+    requires searched { (s : Digits) × ((fetch : ℕ → Option Comparison) × DescentOf s fetch top.levels (tree_at table.now top) descent.now) }
+    ensures { (s : Digits) (fetch : ℕ → Option Comparison) → DescentOf s fetch top.levels (tree_at table.now top) descent.now → Filled list.old (rest s fetch top.levels (tree_at table.now top) 0) list.new result }
 {
     let mut walked = Walked {
         count: 0,
         more: false,
     };
+    // Kept: `h` is a height before it is an index, and the levels of each part are made of it.
     for h in descent.bottom..top.levels {
-        let (at, place) = (descent.nodes[h as usize], descent.places[h as usize]);
-        walked = walk_after(table, top.used, h, at, place, list, walked);
+        let Waypoint { node, place } = descent.path[usize::from(h)];
+        let part = Top {
+            levels: h + 1,
+            root: node,
+            ..top
+        };
+        walked = walk_after(table, part, place, list, walked);
     }
     walked
 }

@@ -13,3 +13,4 @@ pub mod Tracing
 pub mod Joining
 pub mod Needing
 pub mod Rooting
+pub mod Pathing

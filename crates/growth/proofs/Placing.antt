@@ -414,8 +414,8 @@ pub at_empty : (t : List Node) (used : ℕ) (ents nexts : List Entry) (ps : List
 at_empty t used ents nexts ps zero at z rdy = record { left = refl; linked = refl; taken = refl; frame = λ p lt h. refl; long = refl; packs = rdy.packs; rest = λ p lt. refl }
 at_empty t used ents nexts ps (suc l) at z rdy = absurd (omega arith)
 
-pub set_taken : (c i : ℕ) (xs : List Entry) (y : Entry) → take c (set xs i y) ≡ set (take c xs) i y
+pub set_taken : {X : Type 0} (c i : ℕ) (xs : List X) (y : X) → take c (set xs i y) ≡ set (take c xs) i y
 set_taken zero i xs y = refl
 set_taken (suc c) i [] y = refl
 set_taken (suc c) zero (x ∷ xs) y = refl
-set_taken (suc c) (suc i) (x ∷ xs) y = ap (λ (zs : List Entry). x ∷ zs) (set_taken c i xs y)
+set_taken (suc c) (suc i) (x ∷ xs) y = ap (λ zs. x ∷ zs) (set_taken c i xs y)

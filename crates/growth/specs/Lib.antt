@@ -1,5 +1,6 @@
 pub mod Growth
 pub mod Routes
+pub mod Paths
 pub mod Orders
 pub mod Plans
 pub mod Writes

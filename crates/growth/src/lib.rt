@@ -5,6 +5,7 @@
 pub mod commit;
 pub mod law;
 pub mod need;
+pub mod path;
 pub mod plan;
 pub mod shift;
 pub mod split;

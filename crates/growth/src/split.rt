@@ -2,7 +2,7 @@ ghost use Rattle.std.specs.Prelude.{◌≡◌, ◌+◌, ◌<◌, ◌≤◌, leng
 ghost use Rattle.nodes.specs.Tables.{held, links, packed};
 ghost use Rattle.std.specs.List.{insert};
 
-use crate::shift::{copy_part, shift_in};
+use crate::shift::shift_in;
 use nodes::node::{Entry, Node};
 use nodes::table::NO_ENTRY;
 
@@ -10,30 +10,47 @@ use nodes::table::NO_ENTRY;
 pub const FULL: u8 = 7;
 
 // Of a full node's records and one more, the first four remain, and the fifth moves up.
-const REMAIN: u8 = 4;
-
-// The last three go right.
-const GO_RIGHT: u8 = 3;
+const REMAIN: usize = 4;
 
 // The place of the first that goes right.
 const RIGHT_FROM: usize = 5;
 
-// A node of `count` entries of `es` from `from` on, and of one link more of `cs`.
-fn piece(es: &[Entry], cs: &[u16], from: usize, count: u8) -> Node
-    requires few { count ≤ 7 }
-    requires entries { from + count ≤ length es.now }
-    requires links { from + (count + 1) ≤ length cs.now }
-    ensures { result ≡ packed (take count (drop from es.now)) (take (count + 1) (drop from cs.now)) }
+// A node of these entries and links.
+pub(crate) fn node_of(entries: &[Entry], links: &[u16]) -> Node
+    requires few { length entries.now ≤ 7 }
+    requires one_more { length links.now ≡ length entries.now + 1 }
+    ensures { result ≡ packed entries.now links.now }
 {
-    let n = count as usize;
-    let mut entries = [NO_ENTRY; 7];
-    let mut children = [0u16; 8];
-    copy_part(es, from, n, NO_ENTRY, &mut entries);
-    copy_part(cs, from, n + 1, 0, &mut children);
+    let mut held = [NO_ENTRY; 7];
+    let mut children = [0; 8];
+    held[..entries.len()].copy_from_slice(entries);
+    children[..links.len()].copy_from_slice(links);
     Node {
-        count,
-        entries,
+        count: entries.len() as u8,
+        entries: held,
         children,
+    }
+}
+
+// All places of a node and one more, for one entry more and the link to its right.
+#[derive(Clone, Copy)]
+struct Overfull {
+    entries: [Entry; 8],
+    links: [u16; 9],
+}
+
+impl Overfull {
+    fn new(n: &Node, i: usize, e: Entry, right: u16) -> Overfull
+        requires { i ≤ 7 }
+        ensures entries { result.entries ≡ insert n.now.entries i e }
+        ensures links { result.links ≡ insert n.now.children (i + 1) right }
+        ensures long { (length n.now.entries ≡ 7) × (length n.now.children ≡ 8) }
+    {
+        let mut entries = [NO_ENTRY; 8];
+        let mut links = [0; 9];
+        shift_in(&n.entries, i, e, &mut entries);
+        shift_in(&n.children, i + 1, right, &mut links);
+        Overfull { entries, links }
     }
 }
 
@@ -43,11 +60,9 @@ pub fn put_in(n: &Node, i: usize, e: Entry, right: u16) -> Node
     requires place { i ≤ n.now.count }
     ensures { result ≡ packed (insert (held n.now) i e) (insert (links n.now) (i + 1) right) }
 {
-    let mut es = [NO_ENTRY; 8];
-    let mut cs = [0u16; 9];
-    shift_in(&n.entries, i, e, &mut es);
-    shift_in(&n.children, i + 1, right, &mut cs);
-    piece(&es, &cs, 0, n.count + 1)
+    let wide = Overfull::new(n, i, e, right);
+    let count = usize::from(n.count) + 1;
+    node_of(&wide.entries[..count], &wide.links[..count + 1])
 }
 
 /// A node that was full, in two.
@@ -65,13 +80,11 @@ pub fn split_in(n: &Node, i: usize, e: Entry, link: u16) -> Halves
     ensures left { result.left ≡ packed (take 4 (insert (held n.now) i e)) (take 5 (insert (links n.now) (i + 1) link)) }
     ensures right { result.right ≡ packed (drop 5 (insert (held n.now) i e)) (drop 5 (insert (links n.now) (i + 1) link)) }
 {
-    let mut es = [NO_ENTRY; 8];
-    let mut cs = [0u16; 9];
-    shift_in(&n.entries, i, e, &mut es);
-    shift_in(&n.children, i + 1, link, &mut cs);
-    let left = piece(&es, &cs, 0, REMAIN);
-    let right = piece(&es, &cs, RIGHT_FROM, GO_RIGHT);
-    Halves { left, right }
+    let wide = Overfull::new(n, i, e, link);
+    Halves {
+        left: node_of(&wide.entries[..REMAIN], &wide.links[..=REMAIN]),
+        right: node_of(&wide.entries[RIGHT_FROM..], &wide.links[RIGHT_FROM..]),
+    }
 }
 
 /// The node with another entry at the place, if one is there.
@@ -83,7 +96,7 @@ pub fn renewed(n: &Node, i: usize, next: Entry) -> Node
     ensures links { links result ≡ links n.now }
 {
     let mut m = *n;
-    if i < n.count as usize {
+    if i < usize::from(n.count) {
         m.entries[i] = next;
     }
     m

@@ -1,10 +1,10 @@
 -- The order of the bits is the order of the bytes.
-use Rattle.std.proofs.Common.{◌≡◌, ℕ, zero, suc, ◌+◌, ◌*◌, ◌<◌, ◌≤◌, ◌⊎◌, ◌↔◌, List, [], ◌∷◌, length, get_or, sym, refl, ap, subst, inl, inr, ⊎_elim, arith}
+use Rattle.std.proofs.Common.{◌≡◌, ℕ, zero, suc, ◌+◌, ◌*◌, ◌<◌, ◌≤◌, ◌⊎◌, ◌↔◌, List, [], ◌∷◌, length, get_or, sym, refl, ap, subst, inl, inr, ⊎_elim, arith, Fits, w8}
 use lib.Bits.{xor_comm}
 use Rattle.std.proofs.lemmas.Bool.{cases_order}
 use Rattle.keys.specs.Digits.{Above, Below}
 use Rattle.keys.specs.Bits.{bits}
-use Rattle.keys.specs.Bytes.{Smaller}
+use Rattle.keys.specs.Bytes.{PartsAt, Smaller}
 use Rattle.keys.specs.Comparing.{Compares, OneWidth, Stands, comparison}
 use Rattle.keys.specs.declared.comparison.Comparison.{Comparison}
 use Rattle.keys.specs.declared.comparison.Comparison.TheVariants.{Equal, Greater, Less}
@@ -63,36 +63,40 @@ order_of_bytes a b fa fb l = (
   smaller_below a b fa fb,
 )
 
--- two keys of one width that agree before byte i, and the place z within it that the table tells
-module _ (a b : List ℕ) (fa : (i : ℕ) → get_or a i 0 < 256) (fb : (i : ℕ) → get_or b i 0 < 256) (l : length b ≡ length a)
-    (i : ℕ) (h : i < length a) (same : (k : ℕ) → k < i → get_or a k 0 ≡ get_or b k 0) (z : ℕ) (is : z ≡ parting (get_or a i 0) (get_or b i 0)) where
-  parts_last : (get_or a i 0 ≡ get_or b i 0 → ⊥) → 8 * i + z + 1 ≤ 8 * length a
-  parts_last d = omega (arith, parts_within (get_or a i 0) (get_or b i 0) (fa i) (fb i) d)
+-- what the comparison of two keys of one width tells
+module _ (a b : List ℕ) (ta : (i : ℕ) → Fits w8 (get_or a i 0)) (tb : (i : ℕ) → Fits w8 (get_or b i 0)) (w : OneWidth a b) where
+  fa : (i : ℕ) → get_or a i 0 < 256
+  fa i = omega (arith, ta i)
 
-  pub tells_greater : get_or b i 0 < get_or a i 0 → (Greater (8 * i + z + 1) ≡ comparison a b) × Stands a b (Greater (8 * i + z + 1))
-  tells_greater m =
-      let p : Above (bits a) (bits b) (8 * i + z + 1) = rw is (parts_above a b i same (fa i) (fb i) m) in
-      let u = parts_last (λ e. omega arith) in (
-        sym (compared_greater (8 * length a + 1) (bits a) (bits b) _ p (omega arith)),
-        (u, p, smaller_at b a i (omega arith) h (λ k v. sym (same k v)) m),
-      )
+  fb : (i : ℕ) → get_or b i 0 < 256
+  fb i = omega (arith, tb i)
 
-  pub tells_less : get_or a i 0 < get_or b i 0 → (Less (8 * i + z + 1) ≡ comparison a b) × Stands a b (Less (8 * i + z + 1))
-  tells_less m =
-      let p : Above (bits b) (bits a) (8 * i + z + 1) = rw (is, xor_comm (get_or a i 0) (get_or b i 0)) (parts_above b a i (λ k v. sym (same k v)) (fb i) (fa i) m) in
-      let u = parts_last (λ e. omega arith) in (
-        sym (compared_less (8 * length a + 1) (bits a) (bits b) _ p (omega arith)),
-        (u, p, smaller_at a b i h (omega arith) same m),
-      )
+  same : (c : Comparison) → Stands a b c → (c ≡ Equal) ↔ (a ≡ b)
+  same Equal s = (λ _. s, λ _. refl)
+  same (Greater o) s = (λ e. absurd (let z : ◌≡◌ {A = ℕ} 0 1 = cc in omega arith), λ e. absurd (not_itself (bits a) o (subst (λ x. Above (bits a) (bits x) o) (sym e) s.1)))
+  same (Less o) s = (λ e. absurd (let z : ◌≡◌ {A = ℕ} 0 1 = cc in omega arith), λ e. absurd (not_itself (bits b) o (subst (λ x. Above (bits b) (bits x) o) e s.1)))
 
--- the rest of what a comparison owes
-pub compares : (a b : List ℕ) → ((i : ℕ) → get_or a i 0 < 256) → ((i : ℕ) → get_or b i 0 < 256) → (c : Comparison) → OneWidth a b → c ≡ comparison a b → Stands a b c → Compares a b c
-compares a b fa fb c w e s = record { width = w; value = e; equal = same c s; stands = s; bytes = order_of_bytes a b fa fb w.2 }
-  where
-    same : (c : Comparison) → Stands a b c → (c ≡ Equal) ↔ (a ≡ b)
-    same Equal s = (λ _. s, λ _. refl)
-    same (Greater o) s = (λ e. absurd (let z : ◌≡◌ {A = ℕ} 0 1 = cc in omega arith), λ e. absurd (not_itself (bits a) o (subst (λ x. Above (bits a) (bits x) o) (sym e) s.1)))
-    same (Less o) s = (λ e. absurd (let z : ◌≡◌ {A = ℕ} 0 1 = cc in omega arith), λ e. absurd (not_itself (bits b) o (subst (λ x. Above (bits b) (bits x) o) e s.1)))
+  compares : (c : Comparison) → c ≡ comparison a b → Stands a b c → Compares a b c
+  compares c e s = record { width = w; value = e; equal = same c s; stands = s; bytes = order_of_bytes a b fa fb w.2 }
 
-pub tells_equal : (a b : List ℕ) → a ≡ b → Equal ≡ comparison a b
-tells_equal a b e = sym (compared_equal (8 * length a + 1) (bits a) (bits b) (λ i _. ap (λ x. bits x i) e))
+  pub tells_equal : a ≡ b → Compares a b Equal
+  tells_equal e = compares Equal (sym (compared_equal (8 * length a + 1) (bits a) (bits b) (λ i _. ap (λ x. bits x i) e))) e
+
+  -- the two part at byte i, and z is the place within it that the table tells
+  module _ (i : ℕ) (h : PartsAt a b i) (z : ℕ) (is : z ≡ parting (get_or a i 0) (get_or b i 0)) where
+    parts_last : 8 * i + z + 1 ≤ 8 * length a
+    parts_last = omega (arith, h.within, parts_within (get_or a i 0) (get_or b i 0) (fa i) (fb i) h.differ)
+
+    pub tells_greater : get_or b i 0 < get_or a i 0 → Compares a b (Greater (8 * i + z + 1))
+    tells_greater m =
+        let p : Above (bits a) (bits b) (8 * i + z + 1) = rw is (parts_above a b i h.same (fa i) (fb i) m) in
+        compares _
+        (sym (compared_greater (8 * length a + 1) (bits a) (bits b) _ p (omega (arith, parts_last))))
+        (parts_last, p, smaller_at b a i (omega (arith, h.within)) h.within (λ k v. sym (h.same k v)) m)
+
+    pub tells_less : get_or a i 0 < get_or b i 0 → Compares a b (Less (8 * i + z + 1))
+    tells_less m =
+        let p : Above (bits b) (bits a) (8 * i + z + 1) = rw (is, xor_comm (get_or a i 0) (get_or b i 0)) (parts_above b a i (λ k v. sym (h.same k v)) (fb i) (fa i) m) in
+        compares _
+        (sym (compared_less (8 * length a + 1) (bits a) (bits b) _ p (omega (arith, parts_last))))
+        (parts_last, p, smaller_at a b i h.within (omega (arith, h.within)) h.same m)

@@ -3,7 +3,6 @@ use Rattle.std.proofs.Common.{◌≡◌, ℕ, zero, suc, ◌+◌, ◌-◌, ◌*�
 use lib.Bits.{bit_and, and_mask}
 use Rattle.std.proofs.lemmas.List.{get_or_past}
 use Rattle.keys.specs.Bits.{bits}
-use Rattle.keys.specs.Digits.{Above, floor}
 
 pub lowest_bit : (x : ℕ) → bit_and x 1 ≡ x % 2
 lowest_bit x = and_mask x 1
@@ -11,10 +10,6 @@ lowest_bit x = and_mask x 1
 pub bit_small : (key : List ℕ) (i : ℕ) → bits key i ≤ 1
 bit_small key zero = omega arith
 bit_small key (suc i) = omega arith
-
--- every key lies above the floor: it has the 1 in front
-pub above_floor : (key : List ℕ) → Above (bits key) floor 0
-above_floor key = record { same = λ i h. absurd (omega arith); more = omega arith }
 
 pub bit_after : (key : List ℕ) (i : ℕ) → 0 < i → bits key i ≡ (get_or key ((i - 1) / 8) 0 / 2 ^ (7 - (i - 1) % 8)) % 2
 bit_after key zero h = absurd (omega arith)

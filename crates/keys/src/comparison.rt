@@ -1,4 +1,5 @@
-ghost use Rattle.std.specs.Prelude.{◌≡◌};
+ghost use Rattle.std.specs.Prelude.{◌≡◌, length, IfNone, IfSome};
+ghost use Rattle.keys.specs.Bytes.{PartsAt};
 ghost use Rattle.keys.specs.Comparing.{Compared, offset_of};
 
 use crate::key::WIDEST;
@@ -19,10 +20,18 @@ impl Comparison {
     {
         match self {
             Comparison::Equal => None,
-            Comparison::Greater(offset) => Some(offset),
-            Comparison::Less(offset) => Some(offset),
+            Comparison::Greater(offset) | Comparison::Less(offset) => Some(offset),
         }
     }
+}
+
+// The first byte in which two keys of one width differ.
+fn parting_byte(key: &[u8], other: &[u8]) -> Option<usize>
+    requires { length key.now ≡ length other.now }
+    ensures equal { IfNone result (key.now ≡ other.now) }
+    ensures parts { IfSome result (PartsAt key.now other.now) }
+{
+    key.iter().zip(other).position(|(x, y)| x != y)
 }
 
 /// Compares a key with another of its width; none where the two are not keys of one width.
@@ -33,16 +42,14 @@ pub fn compare(key: &[u8], other: &[u8]) -> Option<Comparison>
     if width == 0 || width > WIDEST || other.len() != width {
         return None;
     }
-    for i in 0..width {
-        let (x, y) = (key[i], other[i]);
-        if x != y {
-            let offset = 8 * i as u16 + leading_zeros(x ^ y) as u16 + 1;
-            return Some(if x > y {
-                Comparison::Greater(offset)
-            } else {
-                Comparison::Less(offset)
-            });
-        }
-    }
-    Some(Comparison::Equal)
+    let Some(i) = parting_byte(key, other) else {
+        return Some(Comparison::Equal);
+    };
+    let (x, y) = (key[i], other[i]);
+    let offset = 8 * i as u16 + u16::from(leading_zeros(x ^ y)) + 1;
+    Some(if x > y {
+        Comparison::Greater(offset)
+    } else {
+        Comparison::Less(offset)
+    })
 }

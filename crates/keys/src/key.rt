@@ -10,21 +10,17 @@ pub fn bit(key: &[u8], place: usize) -> u8
     ensures value { result ≡ bits key.now place }
     ensures above { Above (bits key.now) floor 0 }
 {
-    if place == 0 {
+    let Some(i) = place.checked_sub(1) else {
         return 1;
-    }
-    let i = place - 1;
-    if i / 8 >= key.len() {
-        return 0;
-    }
-    (key[i / 8] >> (7 - i % 8)) & 1
+    };
+    key.get(i / 8).map_or(0, |byte| (byte >> (7 - i % 8)) & 1)
 }
 
 // A byte of a key, 0 past its end.
 fn byte_at(key: &[u8], i: usize) -> u8
     ensures { result ≡ slice_index key.now i }
 {
-    if i < key.len() { key[i] } else { 0 }
+    key.get(i).copied().unwrap_or(0)
 }
 
 /// The eight bits of a key right after a place, the first highest: they lie in two bytes at most.
@@ -32,6 +28,6 @@ pub fn byte_after(key: &[u8], place: usize) -> u8
     ensures { result ≡ worth 2 (bits key.now) (suc place) 8 }
 {
     let i = place / 8;
-    let both = 256 * byte_at(key, i) as u16 + byte_at(key, i + 1) as u16;
+    let both = u16::from_be_bytes([byte_at(key, i), byte_at(key, i + 1)]);
     ((both >> (8 - place % 8)) % 256) as u8
 }

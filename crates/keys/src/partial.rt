@@ -22,13 +22,11 @@ pub fn partial_key(key: &[u8], offset: u16, l: u8) -> Option<PartialKey>
     if width == 0 || width > WIDEST || l > LONGEST {
         return None;
     }
-    let last = 8 * width as u16;
-    if offset > last {
-        return None;
-    }
-    let length = (l as u16).min(last - offset) as u8;
-    let place = offset as usize;
-    let after = 256 * byte_after(key, place) as u32 + byte_after(key, place + 8) as u32;
+    let left = (8 * width as u16).checked_sub(offset)?;
+    let length = u16::from(l).min(left) as u8;
+    let place = usize::from(offset);
+    // as 32 bits, since a partial key of no bits shifts all 16 out
+    let after = u32::from(u16::from_be_bytes([byte_after(key, place), byte_after(key, place + 8)]));
     Some(PartialKey {
         offset,
         length,

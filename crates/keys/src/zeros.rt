@@ -17,5 +17,5 @@ const ZEROS: [u8; 256] = [
 pub fn leading_zeros(byte: u8) -> u8
     ensures { result ≡ zeros_before_one 8 byte }
 {
-    ZEROS[byte as usize]
+    ZEROS[usize::from(byte)]
 }

@@ -1,8 +1,10 @@
 -- Layers chosen at run time are maps of keys: the proofs that their ghost members give.
 use Rattle.std.proofs.Common.{◌∙◌, ap}
 use Rattle.std.specs.Prelude.{List, [], ◌∷◌, refl}
-use Rattle.layers.specs.LayerLaw.{inverted_hides, inverted_keeps, turned_hides, turned_keeps}
-use Rattle.layers.specs.Layers.{Hides, KeepsKeys}
+use Rattle.layers.specs.LayerLaw.{inverted_keeps, turned_keeps}
+use Rattle.layers.specs.Layers.{KeepsKeys}
+use Rattle.layers.specs.WayBackLaw.{inverted_hides, turned_hides}
+use Rattle.layers.specs.WaysBack.{Hides}
 use Rattle.layers.specs.Viewed.{all_hidden, all_shown, unviewed, viewed}
 use Rattle.layers.specs.declared.views.View.{View}
 use Rattle.layers.specs.declared.views.View.TheVariants.{NewestFirst, Turned}

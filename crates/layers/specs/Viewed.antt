@@ -1,7 +1,8 @@
 -- Layers chosen at run time.
 use Rattle.std.specs.Prelude.{ℕ, List, [], ◌∷◌}
 use Rattle.store.specs.Meaning.{Meaning}
-use Rattle.layers.specs.Layers.{inverted, shown, turned, turned_back}
+use Rattle.layers.specs.Layers.{inverted, shown, turned}
+use Rattle.layers.specs.WaysBack.{turned_back}
 use Rattle.layers.specs.declared.views.View.{View}
 use Rattle.layers.specs.declared.views.View.TheVariants.{NewestFirst, Turned}
 

@@ -1,13 +1,11 @@
 ghost use Rattle.std.specs.Prelude.{◌≡◌, ℕ, List};
 ghost use Rattle.layers.specs.LayerLaw.{shown_lawful};
-ghost use Rattle.layers.specs.Layers.{Hides, KeepsKeys, shown};
+ghost use Rattle.layers.specs.Layers.{KeepsKeys, shown};
 
-use keys::key::WIDEST;
-use store::filing::FilingStore;
 use store::reading::ReadingStore;
 use store::refusal::Refusal;
 
-/// A way to show a key as another key of the same width, and the way back.
+/// A way to show a key: another key of the same width.
 pub trait KeyMap {
     // how a key is shown
     ghost shows: { Self → List ℕ → List ℕ };
@@ -15,25 +13,16 @@ pub trait KeyMap {
     // that it is shown as a key of its width
     ghost keeps: { (m : Self) → KeepsKeys (shows m) };
 
-    ghost hides: { Self → List ℕ → List ℕ };
-
-    ghost undone: { (m : Self) → Hides (shows m) (hides m) };
-
     /// Puts the key that is shown in the place of the key.
     fn show(&self, key: &mut [u8])
         ensures { key.new ≡ shows self.now key.old };
-
-    /// Puts the key that is shown as this one in the place of the key.
-    fn hide(&self, key: &mut [u8])
-        ensures { key.new ≡ hides self.now key.old };
 }
 
-/// A store that shows each key of the store below by a map, and files by the way back. Width, capacity, number held and
-/// tally are those below.
+/// A store that shows each key of the store below by a map. Width, capacity, number held and tally are those below.
 #[derive(Drop)]
 pub struct Layer<M, S> {
-    map: M,
-    below: S,
+    pub(crate) map: M,
+    pub(crate) below: S,
 }
 
 impl<M, S> Layer<M, S> {
@@ -50,8 +39,7 @@ impl<M: Drop, S> Layer<M, S> {
     pub fn into_below(self) -> S
         ensures { result ≡ self.below }
     {
-        let Layer { map: _, below } = self;
-        below
+        self.below
     }
 }
 
@@ -80,19 +68,5 @@ impl<M: KeyMap, S: ReadingStore> ReadingStore for Layer<M, S> {
         self.below.fetch(number, buffer)?;
         self.map.show(buffer);
         Ok(())
-    }
-}
-
-impl<M: KeyMap, S: FilingStore> FilingStore for Layer<M, S> {
-    fn append(&mut self, key: &[u8]) -> Result<u16, Refusal> {
-        let width = key.len();
-        if width != self.below.width() {
-            return Err(Refusal::KeyLength);
-        }
-        let mut hidden = [0; WIDEST];
-        let part = &mut hidden[0..width];
-        part.copy_from_slice(key);
-        self.map.hide(part);
-        self.below.append(part)
     }
 }

@@ -1,8 +1,10 @@
 ghost use Rattle.std.specs.Prelude.{◌≡◌, ℕ, ◌↔◌, List};
 ghost use Rattle.keys.specs.Bytes.{Key, Smaller};
-ghost use Rattle.layers.specs.LayerLaw.{inverted_hides, inverted_keeps};
+ghost use Rattle.layers.specs.LayerLaw.{inverted_keeps};
 ghost use Rattle.layers.specs.Layers.{inverted};
+ghost use Rattle.layers.specs.WayBackLaw.{inverted_hides};
 
+use crate::filing::WayBack;
 use crate::layer::{KeyMap, Layer};
 
 /// Every bit inverted, which reverses the order of the keys.
@@ -24,10 +26,6 @@ impl KeyMap for Inversion {
 
     ghost keeps = { λ _. inverted_keeps };
 
-    ghost hides = { λ _. inverted };
-
-    ghost undone = { λ _. inverted_hides };
-
     fn show(&self, key: &mut [u8])
         ensures shown { key.new ≡ inverted key.old }
         ensures reversed { (w : ℕ) (other : List ℕ) → Key w key.old → Key w other → Smaller key.old other ↔ Smaller (inverted other) key.new }
@@ -36,6 +34,12 @@ impl KeyMap for Inversion {
             *byte = !*byte;
         }
     }
+}
+
+impl WayBack for Inversion {
+    ghost hides = { λ _. inverted };
+
+    ghost undone = { λ _. inverted_hides };
 
     fn hide(&self, key: &mut [u8]) {
         self.show(key);

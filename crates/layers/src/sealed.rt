@@ -24,8 +24,7 @@ impl<S> Sealed<S> {
     pub fn into_below(self) -> S
         ensures { result ≡ self.below }
     {
-        let Sealed { below } = self;
-        below
+        self.below
     }
 }
 

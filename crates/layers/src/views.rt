@@ -3,12 +3,14 @@ ghost use Rattle.layers.specs.Layers.{shown};
 ghost use Rattle.layers.specs.ViewLaw.{all_hide, all_keep, viewed_hides, viewed_keeps};
 ghost use Rattle.layers.specs.Viewed.{all_hidden, all_shown, nested, unviewed, viewed};
 
+use crate::filing::WayBack;
 use crate::layer::{KeyMap, Layer};
 use crate::newest::Inversion;
 use crate::turn::Turn;
 use store::reading::ReadingStore;
 
 /// A layer to put on, chosen at run time.
+// Kept: the two kinds are all there are, and boxed maps would take memory for each step.
 #[derive(Clone, Copy)]
 pub enum View {
     /// Every bit inverted.
@@ -48,16 +50,18 @@ impl KeyMap for View {
 
     ghost keeps = { viewed_keeps };
 
-    ghost hides = { unviewed };
-
-    ghost undone = { viewed_hides };
-
     fn show(&self, key: &mut [u8]) {
         match *self {
             View::NewestFirst => Inversion.show(key),
             View::Turned(cut) => Turn { cut }.show(key),
         }
     }
+}
+
+impl WayBack for View {
+    ghost hides = { unviewed };
+
+    ghost undone = { viewed_hides };
 
     fn hide(&self, key: &mut [u8]) {
         match *self {
@@ -72,21 +76,21 @@ impl KeyMap for Views {
 
     ghost keeps = { λ v. all_keep v.steps.items };
 
+    fn show(&self, key: &mut [u8]) {
+        for view in &self.steps {
+            view.show(key);
+        }
+    }
+}
+
+impl WayBack for Views {
     ghost hides = { λ v. all_hidden v.steps.items };
 
     ghost undone = { λ v. all_hide v.steps.items };
 
-    fn show(&self, key: &mut [u8]) {
-        for view in self.steps.iter() {
-            view.show(key);
-        }
-    }
-
     fn hide(&self, key: &mut [u8]) {
-        let mut left = self.steps.as_slice();
-        while let Some((last, before)) = left.split_last() {
-            last.hide(key);
-            left = before;
+        for view in self.steps.iter().rev() {
+            view.hide(key);
         }
     }
 }

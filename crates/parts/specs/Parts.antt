@@ -14,6 +14,11 @@ abbrev pub Written : (size rank : ℕ) → (b : List ℕ) → Result (Unit {0}) 
 Written size rank b (Ok u) b' = (size ≤ 32) × (length b ≡ size) × (b' ≡ big_endian size rank)
 Written size rank b (Err e) b' = (e ≡ KeyLength) × (size ≤ 32 → length b ≢ size) × (b' ≡ b)
 
+-- The same, of the rank's bytes.
+abbrev pub BytesWritten : (rank b : List ℕ) → Result (Unit {0}) Refusal → (b' : List ℕ) → Type 0
+BytesWritten rank b (Ok u) b' = (length b ≡ length rank) × (b' ≡ rank)
+BytesWritten rank b (Err e) b' = (e ≡ KeyLength) × (length b ≢ length rank) × (b' ≡ b)
+
 -- What holds of every part: the rank of a value fits the width, and the ranks have the order of the values.
 pub record Ranks {V : Type 0} (size : ℕ) (rank : V → ℕ) (less : V → V → Type 0) : Type 0 where
   pub wide : 1 ≤ size

@@ -4,7 +4,7 @@ ghost use Rattle.std.specs.Prelude.{◌≡◌, ◌<◌, ◌≤◌};
 ghost use Rattle.std.proofs.Common.{lit<, lit≤};
 ghost use Rattle.parts.specs.PartLaws.{number_ranks};
 
-use crate::part::Part;
+use crate::part::{Part, write_rank};
 use store::refusal::Refusal;
 
 /// A tariff class, 0 to 255.
@@ -16,19 +16,21 @@ pub struct Class {
 
 const WIDTH: usize = 1;
 
-impl Class {
-    /// The class of a number.
-    pub fn new(number: u8) -> Class
-        ensures { result.number ≡ number }
-    {
+/// The class of a number.
+impl From<u8> for Class {
+    ghost from_gives = { λ number class. class.number ≡ number };
+
+    fn from(number: u8) -> Class {
         Class { number }
     }
+}
 
-    /// Its number.
-    pub fn number(self) -> u8
-        ensures { result ≡ self.number }
-    {
-        self.number
+/// The number of a class.
+impl From<Class> for u8 {
+    ghost from_gives = { λ class number. number ≡ class.number };
+
+    fn from(class: Class) -> u8 {
+        class.number
     }
 }
 
@@ -46,10 +48,6 @@ impl Part for Class {
     }
 
     fn write(&self, buffer: &mut [u8]) -> Result<(), Refusal> {
-        if buffer.len() != WIDTH {
-            return Err(Refusal::KeyLength);
-        }
-        buffer.copy_from_slice(&self.number.to_be_bytes());
-        Ok(())
+        write_rank(&self.number.to_be_bytes(), buffer)
     }
 }

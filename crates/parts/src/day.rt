@@ -5,7 +5,7 @@ ghost use Rattle.std.specs.Int.Signed.{mag};
 ghost use Rattle.parts.specs.Days.{DayCorners, day_rank};
 ghost use Rattle.parts.specs.PartLaws.{day_ranks};
 
-use crate::part::Part;
+use crate::part::{Part, write_rank};
 use store::refusal::Refusal;
 
 /// A day, counted from day 0, before it too.
@@ -17,21 +17,25 @@ pub struct Day {
 
 const WIDTH: usize = 4;
 
-impl Day {
-    /// The day of a number.
-    pub fn new(number: i32) -> Day
-        ensures { result.number ≡ number }
-    {
+/// The day of a number.
+impl From<i32> for Day {
+    ghost from_gives = { λ number day. day.number ≡ number };
+
+    fn from(number: i32) -> Day {
         Day { number }
     }
+}
 
-    /// Its number.
-    pub fn number(self) -> i32
-        ensures { result ≡ self.number }
-    {
-        self.number
+/// The number of a day.
+impl From<Day> for i32 {
+    ghost from_gives = { λ day number. number ≡ day.number };
+
+    fn from(day: Day) -> i32 {
+        day.number
     }
+}
 
+impl Day {
     /// Its place among all days, the first at 0: the number + 2^31.
     pub fn rank(self) -> u32
         ensures value { result ≡ day_rank self.number }
@@ -55,10 +59,6 @@ impl Part for Day {
     }
 
     fn write(&self, buffer: &mut [u8]) -> Result<(), Refusal> {
-        if buffer.len() != WIDTH {
-            return Err(Refusal::KeyLength);
-        }
-        buffer.copy_from_slice(&self.rank().to_be_bytes());
-        Ok(())
+        write_rank(&self.rank().to_be_bytes(), buffer)
     }
 }

@@ -5,7 +5,7 @@ ghost use Rattle.std.proofs.Common.{lit<, lit≤};
 ghost use Rattle.store.specs.declared.refusal.Refusal.TheVariants.{FieldRange};
 ghost use Rattle.parts.specs.PartLaws.{number_ranks};
 
-use crate::part::Part;
+use crate::part::{Part, write_rank};
 use store::refusal::Refusal;
 
 /// A minute of a day, 0 to 1439.
@@ -19,22 +19,26 @@ const LAST: u16 = 1439;
 
 const WIDTH: usize = 2;
 
-impl Minute {
-    /// The minute of a number; refused above 1439.
-    pub fn new(number: u16) -> Result<Minute, Refusal>
-        ensures { MatchResult result (λ m. (number ≤ 1439) × (m.number ≡ number)) (λ e. (1439 < number) × (e ≡ FieldRange)) }
-    {
+/// The minute of a number; refused above 1439.
+impl TryFrom<u16> for Minute {
+    type Error = Refusal;
+
+    ghost try_from_gives = { λ number r. MatchResult r (λ m. (number ≤ 1439) × (m.number ≡ number)) (λ e. (1439 < number) × (e ≡ FieldRange)) };
+
+    fn try_from(number: u16) -> Result<Minute, Refusal> {
         if number > LAST {
             return Err(Refusal::FieldRange);
         }
         Ok(Minute { number })
     }
+}
 
-    /// Its number.
-    pub fn number(self) -> u16
-        ensures { result ≡ self.number }
-    {
-        self.number
+/// The number of a minute.
+impl From<Minute> for u16 {
+    ghost from_gives = { λ minute number. number ≡ minute.number };
+
+    fn from(minute: Minute) -> u16 {
+        minute.number
     }
 }
 
@@ -52,10 +56,6 @@ impl Part for Minute {
     }
 
     fn write(&self, buffer: &mut [u8]) -> Result<(), Refusal> {
-        if buffer.len() != WIDTH {
-            return Err(Refusal::KeyLength);
-        }
-        buffer.copy_from_slice(&self.number.to_be_bytes());
-        Ok(())
+        write_rank(&self.number.to_be_bytes(), buffer)
     }
 }

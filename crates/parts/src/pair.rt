@@ -34,7 +34,8 @@ impl<A: Part, B: Part> Part for Pair<A, B> {
         if all > WIDEST || buffer.len() != all {
             return Err(Refusal::KeyLength);
         }
-        self.first.write(&mut buffer[0..w])?;
-        self.second.write(&mut buffer[w..])
+        let (front, rest) = buffer.split_at_mut(w);
+        self.first.write(front)?;
+        self.second.write(rest)
     }
 }

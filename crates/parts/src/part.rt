@@ -1,5 +1,5 @@
 ghost use Rattle.std.specs.Prelude.{◌≡◌, ℕ, OnOk};
-ghost use Rattle.parts.specs.Parts.{InOrder, Ranks, Written, told_width_of};
+ghost use Rattle.parts.specs.Parts.{BytesWritten, InOrder, Ranks, Written, told_width_of};
 
 use store::refusal::Refusal;
 
@@ -24,6 +24,17 @@ pub trait Part {
     /// Writes the rank into a buffer of the part's width, the highest byte first.
     fn write(&self, buffer: &mut [u8]) -> Result<(), Refusal>
         ensures { Written size (rank self.now) buffer.old result buffer.new };
+}
+
+/// Writes the bytes of a rank into a buffer of as many bytes.
+pub(crate) fn write_rank(rank: &[u8], buffer: &mut [u8]) -> Result<(), Refusal>
+    ensures { BytesWritten rank.now buffer.old result buffer.new }
+{
+    if buffer.len() != rank.len() {
+        return Err(Refusal::KeyLength);
+    }
+    buffer.copy_from_slice(rank);
+    Ok(())
 }
 
 /// Writes the key of a part into a buffer of its width: the keys have the order of the values.

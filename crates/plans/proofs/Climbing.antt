@@ -19,6 +19,8 @@ use Rattle.plans.specs.Reads.{Fetches}
 use Rattle.plans.specs.Steps.{Nexted, Refilled}
 use Rattle.search.specs.TreeLaw.{view_of}
 use Rattle.store.specs.Meaning.{Meaning, key_of}
+use Rattle.store.specs.declared.reading.Missing.{Missing}
+use Rattle.growth.specs.Paths.{entries_of, followers_of}
 
 -- the trace
 module _ (v : View) (x o : ℕ) (es : ℕ → List Entry) (ps : List ℕ) where
@@ -89,9 +91,9 @@ set_all xs h y P lt before here k lk = elim (cases_lt k h) [
 ]
 
 -- what `?` passes on is the record that was missing
-passed_on : (keep : ℕ) (m : Meaning) (x o : ℕ) (es : ℕ → List Entry) (ps : List ℕ) (levels q : ℕ) (m2 : Meaning) (res : Result Plan ℕ) → IsErrAnd res (λ e. e ≡ q) → Plans keep m x o es ps levels (Err q) m2 → Plans keep m x o es ps levels res m2
+passed_on : (keep : ℕ) (m : Meaning) (x o : ℕ) (es : ℕ → List Entry) (ps : List ℕ) (levels : ℕ) (q : Missing) (m2 : Meaning) (res : Result Plan Missing) → IsErrAnd res (λ e. e ≡ q) → Plans keep m x o es ps levels (Err q) m2 → Plans keep m x o es ps levels res m2
 passed_on keep m x o es ps levels q m2 (Ok p) e h = absurd e
-passed_on keep m x o es ps levels q m2 (Err e) is h = subst (λ (z : ℕ). Plans keep m x o es ps levels (Err z) m2) (sym is) h
+passed_on keep m x o es ps levels q m2 (Err e) is h = subst (λ (z : Missing). Plans keep m x o es ps levels (Err z) m2) (sym is) h
 
 module _ {keep : ℕ} {m : Meaning} {x o : ℕ} {es : ℕ → List Entry} {ps : List ℕ} {h r u : ℕ} {key : List ℕ} {ents nexts : List Entry} {m1 : Meaning} (go : Going keep m x o es ps h r u key ents nexts m1) where
   abbrev V : View
@@ -110,7 +112,7 @@ module _ {keep : ℕ} {m : Meaning} {x o : ℕ} {es : ℕ → List Entry} {ps : 
   O = (carry V x o es ps h).offset
 
   -- what the call for the following entry says
-  abbrev Next : Result Entry ℕ → Meaning → Type 0
+  abbrev Next : Result Entry Missing → Meaning → Type 0
   Next res m2 = Nexted keep m1 r u (get_or ps h 0) (es h) res m2
 
   -- the store as the plan sees it has not changed
@@ -174,7 +176,7 @@ module _ {keep : ℕ} {m : Meaning} {x o : ℕ} {es : ℕ → List Entry} {ps : 
         follows = follows_on n m2 nx ln;
       }
 
-  pub going_end : (levels : ℕ) (ent : Entry) (p : Plan) → Made ent → h < length ents → h ≡ levels → p.entries ≡ set ents h ent → p.followers ≡ nexts → Plans keep m x o es ps levels (Ok p) m1
+  pub going_end : (levels : ℕ) (ent : Entry) (p : Plan) → Made ent → h < length ents → h ≡ levels → entries_of p ≡ set ents h ent → followers_of p ≡ nexts → Plans keep m x o es ps levels (Ok p) m1
   going_end levels ent p e le lv pe pn = (
     record {
       entries = λ k lk w. rw pe (entries_on ent e le k (omega arith));
@@ -185,7 +187,7 @@ module _ {keep : ℕ} {m : Meaning} {x o : ℕ} {es : ℕ → List Entry} {ps : 
 
   module _ (levels : ℕ) (below : h < levels) where
     pub going_stop : (ent n : Entry) (m2 : Meaning) (p : Plan) → Made ent → h < length ents → h < length nexts → length (es h) < 7
-        → Next (Ok n) m2 → p.entries ≡ set ents h ent → p.followers ≡ set nexts h n → Plans keep m x o es ps levels (Ok p) m2
+        → Next (Ok n) m2 → entries_of p ≡ set ents h ent → followers_of p ≡ set nexts h n → Plans keep m x o es ps levels (Ok p) m2
     going_stop ent n m2 p e le ln few nx pe pn =
         let stop = trace_stop V x o es ps h go.whole few in
         let nw : (trace V x o es ps (suc h)).whole ≡ false = ap (λ (z : Trace). z.whole) stop in
@@ -201,13 +203,13 @@ module _ {keep : ℕ} {m : Meaning} {x o : ℕ} {es : ℕ → List Entry} {ps : 
         true_false : true ≡ false → ⊥
         true_false z = let y : ◌≡◌ {A = ℕ} 0 1 = cc in omega arith
 
-    pub going_miss : (q : ℕ) (m2 : Meaning) (res : Result Plan ℕ) → IsErrAnd res (λ e. e ≡ q) → Next (Err q) m2 → Plans keep m x o es ps levels res m2
+    pub going_miss : (q : Missing) (m2 : Meaning) (res : Result Plan Missing) → IsErrAnd res (λ e. e ≡ q) → Next (Err q) m2 → Plans keep m x o es ps levels res m2
     going_miss q m2 res is nx =
         let f = trace_asks V x o es ps h levels (omega arith) go.whole in
-        passed_on keep m x o es ps levels q m2 res is (subst (λ (z : List ℕ). Fetches m z (Some q) m2) (sym f.1) (fetches_stop m m2 (L h ++ A) f.0 q (asked_on (Some q) m2 nx)))
+        passed_on keep m x o es ps levels q m2 res is (subst (λ (z : List ℕ). Fetches m z (Some q.number) m2) (sym f.1) (fetches_stop m m2 (L h ++ A) f.0 q.number (asked_on (Some q.number) m2 nx)))
 
-    pub going_lost : (ent n : Entry) (q : ℕ) (m2 m3 : Meaning) (r2 : ℕ) (key2 : List ℕ) (res : Result Plan ℕ) → IsErrAnd res (λ e. e ≡ q) → Made ent → get_or ps h 0 ≤ length (es h) → 7 ≤ length (es h)
+    pub going_lost : (ent n : Entry) (q : Missing) (m2 m3 : Meaning) (r2 : ℕ) (key2 : List ℕ) (res : Result Plan Missing) → IsErrAnd res (λ e. e ≡ q) → Made ent → get_or ps h 0 ≤ length (es h) → 7 ≤ length (es h)
         → Next (Ok n) m2 → r2 ≡ (next_carry (written ent n)).number → Refilled m2 x r2 (Err q) m3 key2 → Plans keep m x o es ps levels res m3
     going_lost ent n q m2 m3 r2 key2 res is e pl full nx re rf =
         let f = trace_front V x o es ps (suc h) levels (omega arith) in
-        passed_on keep m x o es ps levels q m3 res is (subst (λ (z : List ℕ). Fetches m z (Some q) m3) (sym f.1) (fetches_stop m m3 (L (suc h)) f.0 q (lifted_on ent n m2 m3 r2 (Some q) e pl full nx re rf)))
+        passed_on keep m x o es ps levels q m3 res is (subst (λ (z : List ℕ). Fetches m z (Some q.number) m3) (sym f.1) (fetches_stop m m3 (L (suc h)) f.0 q.number (lifted_on ent n m2 m3 r2 (Some q.number) e pl full nx re rf)))

@@ -1,10 +1,17 @@
 -- The steps of a plan at one node.
-use Rattle.std.proofs.Common.{◌≡◌, ℕ, zero, suc, ◌-◌, ◌*◌, ◌^◌, ◌<◌, ◌≤◌, min, Bool, true, false, cond, not, eqb, leb, List, [], ◌∷◌, length, get_or, take, set, Some, None, Ok, Err, sym, refl, ap, ◌∙◌, arith, length-take}
+use Rattle.std.proofs.Common.{◌≡◌, ℕ, zero, suc, ◌*◌, ◌^◌, ◌<◌, ◌≤◌, min, Bool, true, false, cond, not, eqb, leb, List, [], ◌∷◌, map, length, get_or, take, fold, Some, None, Ok, Err, Option, Result, subst, sym, refl, ap, ◌∙◌, arith, length-take}
 use Rattle.std.proofs.lemmas.Bool.Decides.{nat_tests}
+use Rattle.std.specs.List.{reduce}
+use Rattle.std.specs.Option.{MatchOption, unwrap_or}
+use Rattle.std.specs.Result.{IsErrAnd}
+use Rattle.growth.proofs.Following.{gap_at, gap_back}
 use Rattle.growth.specs.Growth.{asked, least}
 use Rattle.keys.proofs.Offsets.{gap_none}
 use Rattle.keys.specs.Bits.{bits}
+use Rattle.keys.specs.Comparing.{Compared, OneWidth, offset_of}
 use Rattle.keys.specs.Digits.{first_gap_of}
+use Rattle.keys.specs.declared.comparison.Comparison.{Comparison}
+use Rattle.keys.specs.declared.comparison.Comparison.TheVariants.{Equal, Greater, Less}
 use Rattle.keys.specs.Partials.{partial_at, partial_of}
 use Rattle.nodes.specs.Faith.{made}
 use Rattle.nodes.specs.Trees.{no_entry}
@@ -14,6 +21,7 @@ use Rattle.plans.specs.Steps.{Nexted}
 use Rattle.search.specs.TreeLaw.{view_of}
 use Rattle.store.specs.Grounds.{first_ground}
 use Rattle.store.specs.Meaning.{Meaning, after_reads, fetch_grounds, key_of}
+use Rattle.store.specs.declared.reading.Missing.{Missing}
 use Rattle.store.specs.declared.refusal.Refusal.{Refusal}
 use Rattle.store.specs.declared.refusal.Refusal.TheVariants.{KeyLength, NotHeld}
 
@@ -22,7 +30,7 @@ pub gap_same : (n : ℕ) (a b : List ℕ) → a ≡ b → n ≡ first_gap_of n 0
 gap_same n a b e = let g = gap_none n 0 (bits a) (bits b) (λ j lo hi. ap (λ (k : List ℕ). bits k j) e) in omega arith
 
 -- a buffer's front part is as long as the key
-pub buffer_long : (k w : ℕ) (xs : List ℕ) → k ≤ length xs → k ≡ w → length (take (k - 0) xs) ≡ w
+pub buffer_long : (k w : ℕ) (xs : List ℕ) → k ≤ length xs → k ≡ w → length (take k xs) ≡ w
 buffer_long k w xs le e = simp length-take (omega arith)
 
 -- A fetch into a buffer of the right length is refused only for a record that the store lacks.
@@ -86,19 +94,27 @@ module _ (keep : ℕ) (m : Meaning) (r o i : ℕ) (es : List Entry) where
       let a = its e lt is same in
       (λ _. rw y k, rw a (fetches_one m e.number m' held up))
 
-  pub nexted_lost : (e : Entry) (m' : Meaning) → m.tally < 2 ^ 32 → i < length es → e ≡ get_or es i no_entry → e.partial.offset ≡ o → length m.keys ≤ e.number → m' ≡ m → Nexted keep m r o i es (Err e.number) m'
+  pub nexted_lost : (e : Entry) (m' : Meaning) → m.tally < 2 ^ 32 → i < length es → e ≡ get_or es i no_entry → e.partial.offset ≡ o → length m.keys ≤ e.number → m' ≡ m → Nexted keep m r o i es (Err (record { number = e.number })) m'
   nexted_lost e m' f lt is same none sm = let a = its e lt is same in rw a (fetches_lost m e.number m' f none sm)
 
--- the least offset of five
-pub least-five : (es : List Entry) → length es ≡ 8 → least (take 5 es) ≡ min (get_or es 0 no_entry).partial.offset (min (get_or es 1 no_entry).partial.offset (min (get_or es 2 no_entry).partial.offset (min (get_or es 3 no_entry).partial.offset (get_or es 4 no_entry).partial.offset)))
-least-five [] h = absurd (omega arith)
-least-five (a ∷ []) h = absurd (omega arith)
-least-five (a ∷ (b ∷ [])) h = absurd (omega arith)
-least-five (a ∷ (b ∷ (c ∷ []))) h = absurd (omega arith)
-least-five (a ∷ (b ∷ (c ∷ (d ∷ [])))) h = absurd (omega arith)
-least-five (a ∷ (b ∷ (c ∷ (d ∷ (e ∷ fs))))) h = refl
+-- a missing record passed up
+pub nexted_up : (keep : ℕ) (m : Meaning) (r o i : ℕ) (es : List Entry) (m' : Meaning) (res : Result Entry Missing) (q : Missing) → IsErrAnd res (λ e. e ≡ q) → Nexted keep m r o i es (Err q) m' → Nexted keep m r o i es res m'
+nexted_up keep m r o i es m' (Ok n) q is h = absurd is
+nexted_up keep m r o i es m' (Err e) q is h = subst (λ (z : Missing). Nexted keep m r o i es (Err z) m') (sym is) h
 
-pub set_past : (xs : List Entry) (i : ℕ) (y : Entry) → length xs ≤ i → set xs i y ≡ xs
-set_past [] i y le = refl
-set_past (x ∷ xs) zero y le = absurd (omega arith)
-set_past (x ∷ xs) (suc i) y le = ap (λ (zs : List Entry). x ∷ zs) (set_past xs i y (omega arith))
+-- the least offset, as the code picks it
+fold_min : (a : ℕ) (e : Entry) (es : List Entry) → fold min a (map (λ (e : Entry). e.partial.offset) (e ∷ es)) ≡ min a (least (e ∷ es))
+fold_min a e [] = refl
+fold_min a e (f ∷ fs) = fold_min (min a e.partial.offset) f fs ∙ omega arith
+
+pub least_picked : (es : List Entry) → unwrap_or (reduce min (map (λ (e : Entry). e.partial.offset) es)) 0 ≡ least es
+least_picked [] = refl
+least_picked (e ∷ []) = refl
+least_picked (e ∷ (f ∷ fs)) = fold_min e.partial.offset f fs
+
+-- the gap of two keys, as their comparison tells it
+pub gap_told : (a b : List ℕ) (x : Option Comparison) (y : Option ℕ) → OneWidth a b → Compared a b x → MatchOption x (y ≡ None) (λ c. y ≡ offset_of c) → unwrap_or y (8 * length a) ≡ first_gap_of (8 * length a) 0 (bits a) (bits b)
+gap_told a b None y w c is = absurd (c w)
+gap_told a b (Some Equal) y w c is = ap (λ z. unwrap_or z (8 * length a)) is ∙ gap_same (8 * length a) a b c.stands
+gap_told a b (Some (Greater o)) y w c is = ap (λ z. unwrap_or z (8 * length a)) is ∙ sym (gap_back (8 * length a) (bits b) (bits a) o c.stands.1 c.stands.0)
+gap_told a b (Some (Less o)) y w c is = ap (λ z. unwrap_or z (8 * length a)) is ∙ sym (gap_at (8 * length a) (bits a) (bits b) o c.stands.1 c.stands.0)

@@ -1,44 +1,47 @@
 ghost use Rattle.std.specs.Prelude.{◌≡◌, ◌≤◌, length};
 ghost use Rattle.growth.specs.Commits.{Ready};
+ghost use Rattle.growth.specs.Paths.{nodes_of, places_of};
 ghost use Rattle.growth.specs.Routes.{Trail};
 ghost use Rattle.plans.specs.Entries.{Enters};
 ghost use Rattle.plans.specs.Planning.{ItsKey};
+ghost use Rattle.store.specs.declared.refusal.Refusal.TheVariants.{PartialKeyMissing};
 
 use crate::plan::{Entering, make_plan};
 use growth::commit::{Top, commit};
 use growth::need::need_nodes;
+use growth::path::Waypoint;
 use nodes::node::Node;
-use store::reading::ReadingStore;
+use store::reading::{Missing, ReadingStore};
 use store::refusal::Refusal;
 
-/// Enters a record at the end of a path, the leaf the first of the path, `own` its key. Refused where fewer nodes are unused
-/// than needed, and then where the store lacks a record that the entry is to read; nothing is written before that.
+// What an entry answers where the store lacks a record that it is to read.
+fn refused(missing: Missing) -> Refusal
+    ensures { result ≡ PartialKeyMissing missing.number }
+{
+    Refusal::PartialKeyMissing(missing.number)
+}
+
+/// Enters a record at the end of a path. Refused where fewer nodes are unused than needed, and then where the store lacks a
+/// record that the entry is to read; nothing is written before that.
 pub fn enter_at<S: ReadingStore>(
-    table: &mut Vec<Node>,
+    table: &mut [Node],
     top: Top,
-    path: &[u16],
-    places: &[u8],
-    entering: Entering,
-    own: &[u8],
+    path: &[Waypoint],
+    entering: Entering<'_>,
     store: &mut S,
 ) -> Result<Top, Refusal>
-    requires short { entering.keep ≤ 16 }
     requires deep { top.levels ≤ 7 }
     requires path { length path.now ≡ top.levels }
-    requires placed { length places.now ≡ top.levels }
-    requires ready { Ready table.old.items top.used places.now top.levels top.root }
-    requires trail { Trail table.old.items path.now places.now top.levels top.root }
-    requires limit { entering.limit ≤ length table.old.items }
-    requires own { ItsKey (S.ReadingStore.meaning store.old) entering.number own.now }
-    ensures { Enters entering.keep entering.limit (S.ReadingStore.meaning store.old) entering.number entering.offset table.old.items top places.now result table.new.items (S.ReadingStore.meaning store.new) }
+    requires ready { Ready table.old top.used (places_of path.now) top.levels top.root }
+    requires trail { Trail table.old (nodes_of path.now) (places_of path.now) top.levels top.root }
+    requires limit { entering.limit ≤ length table.old }
+    requires own { ItsKey (S.ReadingStore.meaning store.old) entering.number entering.key.now }
+    ensures { Enters entering.entry.shape.partial entering.entry.limit (S.ReadingStore.meaning store.old) entering.entry.number entering.entry.offset table.old top (places_of path.now) result table.new (S.ReadingStore.meaning store.new) }
 {
-    let need = need_nodes(table.as_slice(), path);
-    let wanted = top.used as usize + need as usize;
-    if wanted > entering.limit as usize {
+    let wanted = u32::from(top.used) + u32::from(need_nodes(table, path));
+    if wanted > u32::from(entering.limit) {
         return Err(Refusal::NodesSpent);
     }
-    match make_plan(table.as_slice(), path, places, entering, own, store) {
-        Err(missing) => Err(Refusal::PartialKeyMissing(missing)),
-        Ok(plan) => Ok(commit(table, top, places, &plan)),
-    }
+    let plan = make_plan(table, path, entering, store).map_err(refused)?;
+    Ok(commit(table, top, path, &plan))
 }

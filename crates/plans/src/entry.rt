@@ -7,6 +7,8 @@ ghost use Rattle.keys.specs.Partials.{partial_of};
 use keys::comparison::{Comparison, compare};
 use keys::partial::{PartialKey, partial_key};
 use nodes::node::Entry;
+use nodes::shape::Shape;
+use search::neighbour::Neighbour;
 
 /// The offset between two keys of one width, or the last place if they are equal.
 pub fn first_gap(key: &[u8], other: &[u8]) -> u16
@@ -14,32 +16,23 @@ pub fn first_gap(key: &[u8], other: &[u8]) -> u16
     ensures { result ≡ first_gap_of (8 * length key.now) 0 (bits key.now) (bits other.now) }
 {
     let last = 8 * key.len() as u16;
-    let Some(comparison) = compare(key, other) else {
-        return last;
-    };
-    match comparison {
-        Comparison::Equal => last,
-        Comparison::Greater(offset) => offset,
-        Comparison::Less(offset) => offset,
-    }
+    compare(key, other)
+        .and_then(Comparison::offset)
+        .unwrap_or(last)
 }
 
 /// A record with the partial key of its key at an offset; past the key no bits are left.
-pub fn entry_at(key: &[u8], number: u16, offset: u16, keep: u8) -> Entry
+pub fn entry_at(key: &[u8], at: Neighbour, shape: Shape) -> Entry
     requires some { 1 ≤ length key.now }
     requires few { length key.now ≤ 32 }
-    requires short { keep ≤ 16 }
-    ensures { result ≡ record { number = number; partial = partial_of keep key.now offset } }
+    ensures { result ≡ record { number = at.number; partial = partial_of shape.partial key.now at.offset } }
 {
-    match partial_key(key, offset, keep) {
-        Some(partial) => Entry { number, partial },
-        None => Entry {
-            number,
-            partial: PartialKey {
-                offset,
-                length: 0,
-                bits: 0,
-            },
-        },
-    }
+    let Neighbour { number, offset } = at;
+    let no_bits = PartialKey {
+        offset,
+        length: 0,
+        bits: 0,
+    };
+    let partial = partial_key(key, offset, shape.partial()).unwrap_or(no_bits);
+    Entry { number, partial }
 }

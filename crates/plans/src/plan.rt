@@ -1,69 +1,72 @@
-ghost use Rattle.std.specs.Prelude.{◌≡◌, ◌≤◌, length};
+ghost use Rattle.std.specs.Prelude.{◌≤◌, length};
+ghost use Rattle.growth.specs.Paths.{nodes_of, places_of};
 ghost use Rattle.growth.specs.Routes.{way};
 ghost use Rattle.plans.specs.Planning.{ItsKey, Passable, Plans};
 
 use crate::entry::entry_at;
-use crate::step::{Moved, following, moved_up, refill};
-use growth::plan::Plan;
+use crate::step::{following, moved_up, refill};
+use growth::path::Waypoint;
+use growth::plan::{Line, Plan};
 use growth::split::FULL;
 use keys::key::WIDEST;
 use nodes::node::Node;
+use nodes::shape::Shape;
 use nodes::table::NO_ENTRY;
-use store::reading::ReadingStore;
+use search::neighbour::Neighbour;
+use store::reading::{Missing, ReadingStore};
 
-/// What is entered: a record, its offset to the key before its place, the bits that a partial key keeps, and the nodes that
-/// may be in use.
+/// What is entered: a record with its key, the offset of that to the key before its place, the shape of the index, and the nodes
+/// that may be in use.
 #[derive(Clone, Copy)]
-pub struct Entering {
+pub struct Entering<'a> {
     pub number: u16,
+    pub key: &'a [u8],
     pub offset: u16,
-    pub keep: u8,
+    pub shape: Shape,
     pub limit: u16,
 }
 
 const NOTHING: Plan = Plan {
-    entries: [NO_ENTRY; 8],
-    followers: [NO_ENTRY; 8],
+    lines: [Line {
+        entry: NO_ENTRY,
+        follower: NO_ENTRY,
+    }; 8],
 };
 
-/// What an entry at the end of a path is to write, from the leaf up, the leaf the first of the path; or the first record that
-/// it is to read and that the store lacks.
+/// What an entry at the end of a path is to write, from the leaf up; or the first record that it is to read and that the store
+/// lacks.
 pub fn make_plan<S: ReadingStore>(
     table: &[Node],
-    path: &[u16],
-    places: &[u8],
-    entering: Entering,
-    own: &[u8],
+    path: &[Waypoint],
+    entering: Entering<'_>,
     store: &mut S,
-) -> Result<Plan, u16>
-    requires short { entering.keep ≤ 16 }
+) -> Result<Plan, Missing>
     requires deep { length path.now ≤ 7 }
-    requires placed { length places.now ≡ length path.now }
-    requires way { Passable table.now path.now places.now (length path.now) }
-    requires own { ItsKey (S.ReadingStore.meaning store.old) entering.number own.now }
-    ensures { Plans entering.keep (S.ReadingStore.meaning store.old) entering.number entering.offset (way table.now path.now) places.now (length path.now) result (S.ReadingStore.meaning store.new) }
+    requires way { Passable table.now (nodes_of path.now) (places_of path.now) (length path.now) }
+    requires own { ItsKey (S.ReadingStore.meaning store.old) entering.number entering.key.now }
+    ensures { Plans entering.entry.shape.partial (S.ReadingStore.meaning store.old) entering.entry.number entering.entry.offset (way table.now (nodes_of path.now)) (places_of path.now) (length path.now) result (S.ReadingStore.meaning store.new) }
 {
     let mut plan = NOTHING;
-    let mut up = Moved {
+    let mut up = Neighbour {
         number: entering.number,
         offset: entering.offset,
     };
-    let mut buffer = [0u8; WIDEST];
-    let key = &mut buffer[0..own.len()];
-    key.copy_from_slice(own);
-    for h in 0..path.len() {
-        let n = table[path[h] as usize];
-        let i = places[h] as usize;
-        let entry = entry_at(key, up.number, up.offset, entering.keep);
-        let next = following(&n, i, up, key, entering.keep, store)?;
-        plan.entries[h] = entry;
-        plan.followers[h] = next;
+    let mut buffer = [0; WIDEST];
+    let key = &mut buffer[..entering.key.len()];
+    key.copy_from_slice(entering.key);
+    for (h, waypoint) in path.iter().enumerate() {
+        let n = table[usize::from(waypoint.node)];
+        let i = usize::from(waypoint.place);
+        let entries = &n.entries[..usize::from(n.count)];
+        let entry = entry_at(key, up, entering.shape);
+        let follower = following(entries, i, up, key, entering.shape, store)?;
+        plan.lines[h] = Line { entry, follower };
         if n.count < FULL {
             return Ok(plan);
         }
-        up = moved_up(&n, i, entry, next);
-        refill(up.number, entering.number, own, key, store)?;
+        up = moved_up(&n.entries, i, entry, follower);
+        refill(up.number, entering, key, store)?;
     }
-    plan.entries[path.len()] = entry_at(key, up.number, up.offset, entering.keep);
+    plan.lines[path.len()].entry = entry_at(key, up, entering.shape);
     Ok(plan)
 }

@@ -135,6 +135,6 @@ module _ (n : ℕ) (k : ℕ → Digits) (p : Parts) (s : Digits) (f : TrueNode n
       skip : (g2 : Option ℕ) → Passing k p s c i g2 → looked_at g2 (p.offset i) ≡ false → Above (k (suc i)) (k i) (p.offset i) →
           (Chosen k p s lo c (suc i) → Passing k p s c (suc i) g2 → Chosen k p s lo (candidate s p t (suc i) c g2) hi) →
           Chosen k p s lo (candidate s p t (suc i) c g2) hi
-      skip None w2 z r h = absurd (let q : ◌≡◌ {A = ℕ} 0 1 = cc in omega arith)
+      skip None w2 z r h = cc
       skip (Some b2) w2 z r h = let u : b2 < p.offset i = leb-false (p.offset i) b2 z in
           h (skip_step k p s lo c i b2 v w2 u) (skip_closed k p s c i b2 w2 r u)

@@ -1,5 +1,5 @@
 -- The search down a faithful tree finds the place of its key.
-use Rattle.std.proofs.Common.{◌≡◌, ℕ, zero, suc, ◌+◌, ◌<◌, ◌≤◌, List, [], ◌∷◌, ◌++◌, map, length, get_or, Some, None, Option, sym, refl, ap, ◌∙◌, subst, append_assoc, arith}
+use Rattle.std.proofs.Common.{◌≡◌, ℕ, zero, suc, ◌+◌, ◌<◌, ◌≤◌, List, [], ◌∷◌, ◌++◌, map, length, get_or, Some, None, Option, sym, refl, ap, ◌∙◌, subst, arith}
 use Rattle.std.proofs.lemmas.List.{get_or-map, length-map}
 use Rattle.std.specs.List.{AllByRecursion}
 use Rattle.keys.specs.Digits.{Above, Agree, Below, Digits}
@@ -20,7 +20,7 @@ use Rattle.search.specs.declared.place.Step.{Step}
 use Rattle.search.specs.declared.place.Step.TheVariants.{Ask, Known}
 use Rattle.search.proofs.Ladder.{ladder, ladder_key, strung_kid, strung_long, strung_node}
 use Rattle.search.proofs.NodeRight.{look_right}
-use Rattle.search.proofs.Weaves.{Cut, StartsAbove, cut, first_of-append, last_of-append, starts_append, top, top_append, within, woven_entry, woven_kid}
+use Rattle.search.proofs.Weaves.{Cut, StartsAbove, cut, first_of-append, joined, last_of-append, starts_append, top, top_append, within, woven_entry, woven_kid}
 
 -- the list parts before s, between the records that the answer names
 pub record Gap (v : View) (s : Digits) (xs : List ℕ) (base : Digits) (b a : Option ℕ) (below : Option Neighbour) (above : Option ℕ) : Type 0 where
@@ -46,10 +46,6 @@ Locates v N s xs base b a (gap below above) = Gap v s xs base b a below above
 Locates v N s xs base b a (gone r) = ⊥
 
 -- from the list under a place to the whole
-joined : (v : View) (base : Digits) (q : ℕ) (es : List Entry) (fs : List (List ℕ)) (c : Cut v base q es fs) (xs ys : List ℕ) → get_or fs q [] ≡ xs ++ ys → weave es fs ≡ (c.before ++ xs) ++ (ys ++ c.after)
-joined v base q es fs c xs ys h =
-    c.whole ∙ (ap (λ zs. c.before ++ (zs ++ c.after)) h ∙ (ap (λ zs. c.before ++ zs) (append_assoc xs ys c.after) ∙ sym (append_assoc c.before xs (ys ++ c.after))))
-
 lift : (v : View) (N : ℕ) (s : Digits) (base : Digits) (b a : Option ℕ) (q : ℕ) (es : List Entry) (fs : List (List ℕ)) → Cut v base q es fs →
     (q < length es → Below s (ladder v base es (suc q))) → (x : End) →
     Locates v N s (get_or fs q []) (ladder v base es q) (under_at q b es) (over_at q es a) x → Locates v N s (weave es fs) base b a x

@@ -6,6 +6,8 @@ pub mod NodeRight
 pub mod Turns
 pub mod Reach
 pub mod Sides
+pub mod Scans
+pub mod Chained
 pub mod Ladder
 pub mod Weaves
 pub mod Rising

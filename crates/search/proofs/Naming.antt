@@ -1,7 +1,7 @@
 -- Over any store, an answer names a record of the tree, or two neighbours in it.
-use Rattle.std.proofs.Common.{◌≡◌, ℕ, zero, suc, ◌+◌, ◌<◌, ◌≤◌, Bool, true, false, ◌&&◌, eqb, leb, List, [], ◌∷◌, ◌++◌, map, length, get_or, Some, None, Option, sym, refl, ap, ◌∙◌, subst, append_assoc, arith}
-use Rattle.std.proofs.lemmas.List.{get_or-map, length-map}
-use Rattle.std.proofs.lemmas.Bool.{eqb-true}
+use Rattle.std.proofs.Common.{◌≡◌, ℕ, zero, suc, ◌+◌, ◌<◌, ◌≤◌, Bool, true, eqb, leb, List, [], ◌∷◌, ◌++◌, map, length, get_or, Some, None, Option, sym, refl, ap, ◌∙◌, subst, append_assoc, arith}
+use Rattle.std.proofs.lemmas.List.{append-nil, get_or-map, length-map}
+use Rattle.std.proofs.lemmas.Bool.{and_parts, eqb-true}
 use Rattle.keys.specs.Digits.{Digits, floor}
 use Rattle.keys.specs.declared.comparison.Comparison.{Comparison}
 use Rattle.nodes.specs.declared.node.Entry.{Entry}
@@ -19,49 +19,37 @@ use Rattle.search.specs.declared.place.Placement.TheVariants.{Found, Place}
 use Rattle.search.specs.declared.place.Step.{Step}
 use Rattle.search.specs.declared.place.Step.TheVariants.{Ask, Known}
 use Rattle.search.proofs.Bounds.{looked_within, settled_within}
-use Rattle.search.proofs.Weaves.{Cut, append-nil, cut, first_of-append, last_of-append, within}
+use Rattle.search.proofs.Weaves.{Cut, cut, first_of-append, joined, last_of-append, within}
 
 -- a lawful node has one kid more than entries, and lawful kids
-both_left : (a b : Bool) → a && b ≡ true → a ≡ true
-both_left true b h = refl
-both_left false b h = h
-
-both_right : (a b : Bool) → a && b ≡ true → b ≡ true
-both_right true b h = h
-both_right false b h = absurd (let z : ◌≡◌ {A = ℕ} 0 1 = cc in omega arith)
-
 all_at : {X : Type 0} (f : X → Bool) (xs : List X) (d : X) (i : ℕ) → i < length xs → all f xs ≡ true → f (get_or xs i d) ≡ true
 all_at f [] d i l h = absurd (omega arith)
-all_at f (x ∷ xs) d zero l h = both_left (f x) (all f xs) h
-all_at f (x ∷ xs) d (suc i) l h = all_at f xs d i (omega arith) (both_right (f x) (all f xs) h)
+all_at f (x ∷ xs) d zero l h = (and_parts (f x) (all f xs) h).0
+all_at f (x ∷ xs) d (suc i) l h = all_at f xs d i (omega arith) (and_parts (f x) (all f xs) h).1
 
 module _ (l least : ℕ) (t : Tree (suc l)) (h : shaped (suc l) least t ≡ true) where
-  rests : eqb (length t.kids) (length t.entries + 1) && all (shaped l 3) t.kids ≡ true
-  rests = both_right (leb (length t.entries) 7) _ (both_right (leb least (length t.entries)) _ h)
+  rests : (eqb (length t.kids) (length t.entries + 1) ≡ true) × (all (shaped l 3) t.kids ≡ true)
+  rests = and_parts _ _ (and_parts (leb (length t.entries) 7) _ (and_parts (leb least (length t.entries)) _ h).1).1
 
   one_more : length t.kids ≡ length t.entries + 1
-  one_more = eqb-true (length t.kids) (length t.entries + 1) (both_left _ (all (shaped l 3) t.kids) rests)
+  one_more = eqb-true (length t.kids) (length t.entries + 1) rests.0
 
   kid_shaped : (i : ℕ) → i ≤ length t.entries → shaped l 3 (get_or t.kids i (bare l)) ≡ true
-  kid_shaped i le = all_at (shaped l 3) t.kids (bare l) i (omega (arith, one_more)) (both_right (eqb (length t.kids) (length t.entries + 1)) (all (shaped l 3) t.kids) rests)
+  kid_shaped i le = all_at (shaped l 3) t.kids (bare l) i (omega (arith, one_more)) rests.1
 
 -- a view for lists without keys
 blank : View
 blank = record { key = λ r. floor; last = 0; keep = 0 }
 
-joined : (q : ℕ) (es : List Entry) (fs : List (List ℕ)) (c : Cut blank floor q es fs) (xs ys : List ℕ) → get_or fs q [] ≡ xs ++ ys → weave es fs ≡ (c.before ++ xs) ++ (ys ++ c.after)
-joined q es fs c xs ys h =
-    c.whole ∙ (ap (λ zs. c.before ++ (zs ++ c.after)) h ∙ (ap (λ zs. c.before ++ zs) (append_assoc xs ys c.after) ∙ sym (append_assoc c.before xs (ys ++ c.after))))
-
 lift : (b a : Option ℕ) (q : ℕ) (es : List Entry) (fs : List (List ℕ)) → Cut blank floor q es fs → (x : End) →
     Names (get_or fs q []) (under_at q b es) (over_at q es a) x → Names (weave es fs) b a x
-lift b a q es fs c (found r) h = record { before = c.before ++ h.before; after = h.after ++ c.after; whole = joined q es fs c h.before (r ∷ h.after) h.whole }
-lift b a q es fs c (gone r) h = record { before = c.before ++ h.before; after = h.after ++ c.after; whole = joined q es fs c h.before (r ∷ h.after) h.whole }
+lift b a q es fs c (found r) h = record { before = c.before ++ h.before; after = h.after ++ c.after; whole = joined blank floor q es fs c h.before (r ∷ h.after) h.whole }
+lift b a q es fs c (gone r) h = record { before = c.before ++ h.before; after = h.after ++ c.after; whole = joined blank floor q es fs c h.before (r ∷ h.after) h.whole }
 lift b a q es fs c (gap below above) h = record {
   before = c.before ++ h.before;
   after = h.after ++ c.after;
   offset = h.offset;
-  whole = joined q es fs c h.before h.after h.whole;
+  whole = joined blank floor q es fs c h.before h.after h.whole;
   left = h.left ∙ ap (λ z. neighbour z h.offset) (ap (λ z. last_of z h.before) (sym (c.last b)) ∙ sym (last_of-append b c.before h.before));
   right = h.right ∙ (ap (λ z. first_of h.after z) (sym (c.first a)) ∙ sym (first_of-append h.after c.after a));
 }
@@ -124,7 +112,7 @@ module _ (s : Digits) (fetch : ℕ → Option Comparison) where
         let e : get_or fs q [] ≡ records l kid = get_or-map (records l) t.kids q (bare l) [] (omega (arith, one_more l least t h)) in
         let r = ih 3 kid o (kid_shaped l least t h q le) in
         let c = cut blank floor q t.entries fs more le in
-        (c.before ++ r.0, joined q t.entries fs c r.0 (rest s fetch l kid o) (e ∙ r.1) ∙ ap (λ zs. (c.before ++ r.0) ++ (rest s fetch l kid o ++ zs)) c.tail)
+        (c.before ++ r.0, joined blank floor q t.entries fs c r.0 (rest s fetch l kid o) (e ∙ r.1) ∙ ap (λ zs. (c.before ++ r.0) ++ (rest s fetch l kid o ++ zs)) c.tail)
 
     answered_ends : (high i : ℕ) → i < high → high ≤ length t.entries → (y : Option Comparison) →
         (before : List ℕ) × (records (suc l) t ≡ before ++ rest_answered (λ x. rest_onward (rest s fetch l) (records l) (bare l) t.entries t.kids (settled (parts_of t.entries) high i x)) y)

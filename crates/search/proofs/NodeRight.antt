@@ -95,7 +95,7 @@ pub bits_scan_alike : BitsScanAlike
 bits_scan_alike n o k p s high c d f bits a is above = go (looked s p n o) (looks n k p s f 0 o a) is
   where
     go : (r : Step) → Looks n k p s f 0 r → r ≡ Ask high c → strictly_upward p d (high - suc c) (suc c) ≡ upward p d (high - suc c) (suc c)
-    go (Known q e) h z = absurd (let x : ◌≡◌ {A = ℕ} 0 1 = cc in omega arith)
+    go (Known q e) h z = cc
     go (Ask g b) h z =
         let e : g ≡ high = cc in
         let i : b ≡ c = cc in

@@ -3,17 +3,14 @@ use Rattle.std.proofs.Common.{ℕ, zero, suc, ◌*◌, ◌<◌, ◌≤◌, ltb, 
 use Rattle.std.proofs.lemmas.Bool.{cases_lt, cond_both, ltb-true}
 use Rattle.keys.proofs.Places.{bit_past}
 use Rattle.keys.specs.Bits.{bits}
-use Rattle.keys.specs.declared.comparison.Comparison.{Comparison}
-use Rattle.keys.specs.declared.comparison.Comparison.TheVariants.{Equal, Greater as More, Less as Fewer}
-use Rattle.search.specs.NodeLaw.{ComparedUpto, PlacedUpto, StepsUpto}
+use Rattle.search.specs.NodeLaw.{StepsUpto}
 use Rattle.search.specs.Parts.{Parts}
-use Rattle.search.specs.Placing.{candidate_of, downward, looked, settled}
+use Rattle.search.specs.Placing.{candidate_of, looked}
 use Rattle.search.specs.Sweeping.{against, offset_of, step, sweep, swept}
 use Rattle.search.specs.declared.order.Order.{Order}
 use Rattle.search.specs.declared.order.Order.TheVariants.{Greater, Less, Open}
 use Rattle.search.specs.declared.place.Step.TheVariants.{Ask, Known}
 use Rattle.search.specs.declared.sweep.Swept.{Swept}
-use Rattle.search.proofs.Bounds.{downward_upto}
 
 -- the search key is greater at an offset up to m
 abbrev pub Upto : ℕ → Order → Type 0
@@ -54,8 +51,3 @@ module _ (key : List ℕ) (m : ℕ) (wide : 8 * length key ≤ m) where
       let w : Swept = swept (bits key) p n o in
       cond_both (ltb w.low w.high) (Ask w.high (candidate_of (bits key) p w.low w.high)) (Known w.low w.offset) (λ r. StepsUpto m r)
       (λ x. tt) (λ x. sweep_upto p n 0 0 o (Greater o) l l)
-
-pub settled_upto : (m : ℕ) (p : Parts) (n high c : ℕ) (x : Comparison) → c < high → high ≤ n → ((i : ℕ) → i < n → p.offset i ≤ m) → ComparedUpto m x → PlacedUpto m (settled p high c x)
-settled_upto m p n high c Equal l h each u = tt
-settled_upto m p n high c (More d) l h each u = u
-settled_upto m p n high c (Fewer d) l h each u = each (downward p d c) (omega (arith, downward_upto p d c))

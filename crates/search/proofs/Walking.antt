@@ -22,7 +22,7 @@ use Rattle.search.proofs.Ladder.{ladder, ladder_key, strung_kid, strung_long, st
 use Rattle.search.proofs.NodeRight.{look_right}
 use Rattle.search.proofs.Plainly.{drops, equal, over_floor, remain}
 use Rattle.search.proofs.Rising.{AllAbove, Rising, faithful_rising, greater_all, greater_from, rising_drop, smaller_all}
-use Rattle.search.proofs.Weaves.{Cut, StartsAbove, cut, starts_append, top, top_append, woven_entry, woven_kid}
+use Rattle.search.proofs.Weaves.{Cut, StartsAbove, cut, joined, starts_append, top, top_append, woven_entry, woven_kid}
 
 -- ys begins with a record whose key is s
 abbrev BeginsWith : View → (N : ℕ) → Digits → List ℕ → Type 0
@@ -44,7 +44,7 @@ lift : (v : View) (N : ℕ) (s base : Digits) (q : ℕ) (es : List Entry) (fs : 
     Tail v N s (get_or fs q []) (ladder v base es q) ys → Tail v N s (weave es fs) base (ys ++ after_place q es fs)
 lift v N s base q es fs c over ys h = subst (λ zs. Tail v N s (weave es fs) base (ys ++ zs)) c.tail (record {
   before = c.before ++ h.before;
-  whole = c.whole ∙ (ap (λ zs. c.before ++ (zs ++ c.after)) h.whole ∙ (ap (λ zs. c.before ++ zs) (append_assoc h.before ys c.after) ∙ sym (append_assoc c.before h.before (ys ++ c.after))));
+  whole = joined v base q es fs c h.before ys h.whole;
   parts = go h.parts;
 })
   where

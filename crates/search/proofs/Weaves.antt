@@ -1,5 +1,6 @@
 -- A woven list, cut at a place.
 use Rattle.std.proofs.Common.{◌≡◌, ℕ, zero, suc, ◌+◌, ◌<◌, ◌≤◌, List, [], ◌∷◌, ◌++◌, length, get_or, Some, Option, sym, refl, ap, ◌∙◌, append_assoc, arith}
+use Rattle.std.proofs.lemmas.List.{append-nil}
 use Rattle.std.specs.List.{AllByRecursion}
 use Rattle.keys.specs.Digits.{Below, Digits}
 use Rattle.nodes.specs.declared.node.Entry.{Entry}
@@ -46,10 +47,6 @@ pub record Cut (v : View) (base : Digits) (q : ℕ) (es : List Entry) (fs : List
   pub tail : after ≡ after_place q es fs
   pub starts : (s : Digits) → (q < length es → Below s (ladder v base es (suc q))) → StartsAbove v s after
 
-pub append-nil : (xs : List ℕ) → xs ++ [] ≡ xs
-append-nil [] = refl
-append-nil (x ∷ xs) = ap (λ zs. x ∷ zs) (append-nil xs)
-
 pub cut : (v : View) (base : Digits) (q : ℕ) (es : List Entry) (fs : List (List ℕ)) → length fs ≡ length es + 1 → q ≤ length es → Cut v base q es fs
 cut v base q es [] e l = absurd (omega arith)
 cut v base zero [] (f ∷ fs) e l = record { before = []; after = []; tail = refl; whole = sym (append-nil f); last = λ b. refl; peak = refl; first = λ a. refl; starts = λ s h. tt }
@@ -67,6 +64,11 @@ cut v base (suc q) (x ∷ es) (f ∷ fs) e l =
       tail = r.tail;
       starts = λ s h. r.starts s (λ g. h (omega arith));
     }
+
+-- from the list under a place, in two parts, to the whole
+pub joined : (v : View) (base : Digits) (q : ℕ) (es : List Entry) (fs : List (List ℕ)) (c : Cut v base q es fs) (xs ys : List ℕ) → get_or fs q [] ≡ xs ++ ys → weave es fs ≡ (c.before ++ xs) ++ (ys ++ c.after)
+joined v base q es fs c xs ys h =
+    c.whole ∙ (ap (λ zs. c.before ++ (zs ++ c.after)) h ∙ (ap (λ zs. c.before ++ zs) (append_assoc xs ys c.after) ∙ sym (append_assoc c.before xs (ys ++ c.after))))
 
 -- an entry of the node is in the woven list
 pub record Within (c : ℕ) (es : List Entry) (xs : List ℕ) : Type 0 where

@@ -13,10 +13,7 @@ const LEAD: u8 = 1;
 fn is_looked_at(passed: Option<u16>, offset: u16) -> bool
     ensures { result ≡ looked_at passed offset }
 {
-    match passed {
-        None => true,
-        Some(over) => offset <= over,
-    }
+    passed.is_none_or(|over| offset <= over)
 }
 
 /// The candidate among the open entries, from `low` up to `high`: the one key worth fetching.
@@ -27,10 +24,10 @@ pub fn candidate(entries: &[Entry], key: &[u8], low: usize, high: usize) -> usiz
 {
     let mut chosen = low;
     let mut passed = None;
-    for i in low + 1..high {
-        let offset = entries[i].partial.offset;
+    for (i, entry) in entries[..high].iter().enumerate().skip(low + 1) {
+        let offset = entry.partial.offset;
         if is_looked_at(passed, offset) {
-            if bit(key, offset as usize) >= LEAD {
+            if bit(key, usize::from(offset)) >= LEAD {
                 chosen = i;
                 passed = None;
             } else {

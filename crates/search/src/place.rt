@@ -10,6 +10,7 @@ use crate::sweep::sweep;
 use keys::comparison::Comparison;
 use nodes::node::Entry;
 
+// Kept: neither variant is a failure, so an `Option` or a `Result`, and `?` on it, would mislead.
 /// What a look at a node leads to: a known place, with the search key's offset to the key under it; or a candidate to
 /// fetch and compare, and the first place whose key is known to be greater.
 #[derive(Clone, Copy)]
@@ -18,6 +19,7 @@ pub enum Step {
     Ask { high: usize, candidate: usize },
 }
 
+// Kept: a key found is no failure, nor is a place, so an `Option` or a `Result`, and `?` on it, would mislead.
 /// Where the search key stands in a node: at a place, or before it, with its offset to the key under the place.
 #[derive(Clone, Copy)]
 pub enum Placement {
@@ -46,17 +48,15 @@ pub fn look(entries: &[Entry], key: &[u8], offset: u16) -> Step
     }
 }
 
-// The first entry after the candidate with an offset not above this one, or `high`.
-fn place_above(entries: &[Entry], high: usize, candidate: usize, offset: u16) -> usize
-    requires { (candidate < high) × (high ≤ length entries.now) }
-    ensures { result ≡ upward (parts_of entries.now) offset (high - suc candidate) (suc candidate) }
+// The first entry after the candidate with an offset not above this one, or the end.
+fn place_above(entries: &[Entry], candidate: usize, offset: u16) -> usize
+    requires { candidate < length entries.now }
+    ensures { result ≡ upward (parts_of entries.now) offset (length entries.now - suc candidate) (suc candidate) }
 {
-    for i in candidate + 1..high {
-        if entries[i].partial.offset <= offset {
-            return i;
-        }
-    }
-    high
+    entries[candidate + 1..]
+        .iter()
+        .position(|entry| entry.partial.offset <= offset)
+        .map_or(entries.len(), |n| candidate + 1 + n)
 }
 
 // The last entry up to the candidate with an offset below this one, or the first.
@@ -65,14 +65,10 @@ fn place_below(entries: &[Entry], candidate: usize, offset: u16) -> usize
     ensures placed { result ≡ downward (parts_of entries.now) offset candidate }
     ensures within { result ≤ candidate }
 {
-    let mut i = candidate;
-    while i > 0 {
-        if entries[i].partial.offset < offset {
-            return i;
-        }
-        i -= 1;
-    }
-    0
+    entries[..=candidate]
+        .iter()
+        .rposition(|entry| entry.partial.offset < offset)
+        .unwrap_or(0)
 }
 
 /// Where the search key stands, by its comparison with the candidate's key.
@@ -85,7 +81,7 @@ pub fn settle(entries: &[Entry], high: usize, candidate: usize, comparison: Comp
     match comparison {
         Comparison::Equal => Placement::Found(candidate),
         Comparison::Greater(offset) => Placement::Place {
-            place: place_above(entries, high, candidate, offset),
+            place: place_above(&entries[..high], candidate, offset),
             offset,
         },
         Comparison::Less(offset) => {

@@ -23,9 +23,9 @@ pub fn sweep(entries: &[Entry], key: &[u8], offset: u16) -> Swept
 {
     let mut low = 0;
     let mut nearest = offset;
-    let mut order = Order::Greater(offset as usize);
-    for i in 0..entries.len() {
-        order = next_order(key, order, entries[i].partial);
+    let mut order = Order::Greater(usize::from(offset));
+    for (i, entry) in entries.iter().enumerate() {
+        order = next_order(key, order, entry.partial);
         match order {
             Order::Greater(known) => {
                 low = i + 1;

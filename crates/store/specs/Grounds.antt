@@ -1,5 +1,5 @@
 -- The fifteen grounds of a refusal, and how a call picks one.
-use Rattle.std.specs.Prelude.{ℕ, Bool, cond, ◌||◌, List, [], ◌∷◌, Some, None, Option, ◌==◌, nat_lt}
+use Rattle.std.specs.Prelude.{ℕ, Bool, cond, ◌||◌, List, [], ◌∷◌, codes, Some, None, Option, ◌==◌, nat_lt}
 use Rattle.store.specs.declared.refusal.Refusal.{Refusal}
 use Rattle.store.specs.declared.refusal.Refusal.TheVariants.{LineForm, FieldForm, FieldRange, KeyWidth, PartialLength, StoreWidth, KeyLength, HeadLength, NotHeld, StoreFull, SearchMissing, NotAscending, KeyPresent, NodesSpent, PartialKeyMissing}
 
@@ -38,6 +38,24 @@ named NotAscending = None
 named (KeyPresent r) = Some r
 named NodesSpent = None
 named (PartialKeyMissing r) = Some r
+
+-- what each ground says
+abbrev pub words : Refusal → List ℕ
+words LineForm = codes "the line's letter or length fits neither a label nor a query"
+words FieldForm = codes "a field is not blanks, a permitted minus and digits"
+words FieldRange = codes "a class, day or minute is out of range"
+words KeyWidth = codes "a width for a shape, card or pocket is 0 or above 32"
+words PartialLength = codes "a shape's partial length is above 16"
+words StoreWidth = codes "the store's width differs from that of the intake or index"
+words KeyLength = codes "a key or buffer differs from the width in length"
+words HeadLength = codes "the head is longer than the width"
+words NotHeld = codes "the store does not hold the record"
+words StoreFull = codes "the store is at capacity"
+words (SearchMissing r) = codes "the search must fetch a record that the store does not hold"
+words NotAscending = codes "an added key is not above the last"
+words (KeyPresent r) = codes "the key is in the index already"
+words NodesSpent = codes "fewer nodes are unused than needed"
+words (PartialKeyMissing r) = codes "a new partial key needs a record that the store does not hold"
 
 -- a ground of a call: whether it holds, and the refusal that it gives
 pub record Ground : Type 0 where

@@ -3,6 +3,12 @@ ghost use Rattle.store.specs.Meaning.{Fetched, Lawful, Meaning};
 
 use crate::refusal::Refusal;
 
+/// A record that has to be fetched, and that the store does not hold.
+#[derive(Clone, Copy, Debug, PartialEq, Eq)]
+pub struct Missing {
+    pub number: u16,
+}
+
 /// A store that keys are read from.
 pub trait ReadingStore {
     // what the store means

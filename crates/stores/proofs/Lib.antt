@@ -1,4 +1,1 @@
-pub mod Laying
-pub mod Showing
 pub mod Filing
-pub mod Pocketing

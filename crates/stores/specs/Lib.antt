@@ -1,7 +1,5 @@
 pub mod Plans
 pub mod PlanLaw
-pub mod Layers
-pub mod LayerLaw
 pub mod Cards
 pub mod CardLaw
 pub mod Pockets

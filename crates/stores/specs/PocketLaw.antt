@@ -2,8 +2,8 @@
 use Rattle.std.specs.Prelude.{◌≡◌, ℕ, ◌^◌, ◌<◌, ◌≤◌, List, [], ◌∷◌, map, length, take, vec_items, vec_len, Vec}
 use Rattle.std.proofs.Common.{sym, ◌∙◌, arith}
 use Rattle.std.specs.List.{AllByRecursion}
-use Rattle.std.proofs.ByRecursion.{All-from_get_or, All-map}
-use Rattle.std.proofs.lemmas.List.{get_or-take, length-map, length-take-le}
+use Rattle.std.proofs.ByRecursion.{All-from_get_or, All-map, All-take}
+use Rattle.std.proofs.lemmas.List.{length-map, length-take-le}
 use Rattle.keys.specs.Bytes.{Key}
 use Rattle.store.specs.Meaning.{Lawful}
 use Rattle.stores.specs.Pockets.{key_in, pocket_of}
@@ -14,9 +14,10 @@ all_any P f [] = tt
 all_any P f (x ∷ xs) = (f x, all_any P f xs)
 
 key_row : (w : ℕ) → w ≤ 32 → (row : Row) → Key w (key_in w row)
-key_row w h row =
-    let l : length (take w row.bytes) ≡ w = length-take-le w row.bytes (omega (arith, row.long)) in
-    (l, All-from_get_or (λ b. b < 256) (key_in w row) 0 (λ i k. let j : i < w = omega arith in rw (get_or-take w row.bytes i 0 j) (row.each i)))
+key_row w h row = (
+  length-take-le w row.bytes (omega (arith, row.long)),
+  All-take (λ b. b < 256) w row.bytes (All-from_get_or (λ b. b < 256) row.bytes 0 (λ i _. row.each i)),
+)
 
 pub length_rows : (w : ℕ) (rows : List Row) (n : ℕ) → n ≤ length rows → length (map (key_in w) (take n rows)) ≡ n
 length_rows w rows n h = length-map (take n rows) (key_in w) ∙ length-take-le n rows h

@@ -4,6 +4,7 @@ ghost use Rattle.store.specs.Meaning.{Appended, Fetched};
 ghost use Rattle.stores.specs.CardLaw.{card_lawful};
 ghost use Rattle.stores.specs.Cards.{BytesBefore, card_of, put_at, room_of};
 
+use crate::grounds::{check_append, check_fetch};
 use keys::key::WIDEST;
 use store::filing::FilingStore;
 use store::reading::ReadingStore;
@@ -13,6 +14,7 @@ use store::refusal::Refusal;
 #[derive(Drop)]
 pub struct Card {
     width: usize,
+    // Kept: the bytes are the caller's, handed in whole and handed back, so the count of what is filed stands beside them.
     count: u16,
     tally: u32,
     bytes: Vec<u8>,
@@ -30,9 +32,6 @@ pub struct CardError {
     pub refusal: Refusal,
     pub bytes: Vec<u8>,
 }
-
-// The number of a record has 16 bits.
-const MOST: usize = 65535;
 
 impl Card {
     /// An empty card over these bytes, which stay as they are until a key is filed over them. A refusal hands them back.
@@ -76,7 +75,7 @@ impl ReadingStore for Card {
     }
 
     fn capacity(&self) -> u16 {
-        (self.bytes.len() / self.width).min(MOST) as u16
+        u16::try_from(self.bytes.len() / self.width).unwrap_or(u16::MAX)
     }
 
     fn tally(&self) -> u32 {
@@ -87,13 +86,8 @@ impl ReadingStore for Card {
         ensures fetched { Fetched (card_of self.old.width self.old.bytes.items self.old.count self.old.tally) number buffer.old result (card_of self.new.width self.new.bytes.items self.new.count self.new.tally) buffer.new (self.new ≡ self.old) }
         ensures bytes { self.new.bytes ≡ self.old.bytes }
     {
-        if buffer.len() != self.width {
-            return Err(Refusal::KeyLength);
-        }
-        if number >= self.count {
-            return Err(Refusal::NotHeld);
-        }
-        let start = number as usize * self.width;
+        check_fetch(self.width, self.count, number, buffer)?;
+        let start = usize::from(number) * self.width;
         buffer.copy_from_slice(&self.bytes[start..start + self.width]);
         self.tally = self.tally.wrapping_add(1);
         Ok(())
@@ -105,14 +99,9 @@ impl FilingStore for Card {
         ensures appended { Appended (card_of self.old.width self.old.bytes.items self.old.count self.old.tally) key.now result (card_of self.new.width self.new.bytes.items self.new.count self.new.tally) (self.new ≡ self.old) }
         ensures bytes { MatchResult result (λ n. self.new.bytes.items ≡ put_at (n * self.old.width) key.now self.old.bytes.items) (λ _. self.new.bytes ≡ self.old.bytes) }
     {
-        if key.len() != self.width {
-            return Err(Refusal::KeyLength);
-        }
         let number = self.count;
-        if number == self.capacity() {
-            return Err(Refusal::StoreFull);
-        }
-        let place = number as usize * self.width;
+        check_append(self.width, number, self.capacity(), key)?;
+        let place = usize::from(number) * self.width;
         self.bytes[place..place + self.width].copy_from_slice(key);
         self.count = number + 1;
         Ok(number)

@@ -1,13 +1,11 @@
-//! Stores: the plan to read from, the card and the pocket to file in, and layers that show the keys of any store below by a map.
+//! Stores: the plan to read from; inner, until filing stores are offered: the card and the pocket to file in.
 #![tactic(auto)]
 
 mod card;
 #[cfg(test)]
 mod filing_tests;
-pub mod layer;
-pub mod newest;
+mod grounds;
 pub mod plan;
 mod pocket;
 mod row;
 mod table;
-pub mod turn;

@@ -3,6 +3,7 @@ ghost use Rattle.store.specs.Meaning.{Fetched};
 ghost use Rattle.stores.specs.PlanLaw.{plan_lawful};
 ghost use Rattle.stores.specs.Plans.{plan_of};
 
+use crate::grounds::check_fetch;
 use store::reading::ReadingStore;
 use store::refusal::Refusal;
 
@@ -46,7 +47,7 @@ impl ReadingStore for Plan {
     fn held(&self) -> u16
         ensures { result ≡ length (plan_of self.now.classes self.now.tally).keys }
     {
-        HOURS * self.classes as u16
+        HOURS * u16::from(self.classes)
     }
 
     fn capacity(&self) -> u16
@@ -64,14 +65,9 @@ impl ReadingStore for Plan {
     fn fetch(&mut self, number: u16, buffer: &mut [u8]) -> Result<(), Refusal>
         ensures { Fetched (plan_of self.old.classes self.old.tally) number buffer.old result (plan_of self.new.classes self.new.tally) buffer.new (self.new ≡ self.old) }
     {
-        if buffer.len() != WIDTH {
-            return Err(Refusal::KeyLength);
-        }
-        if number >= self.held() {
-            return Err(Refusal::NotHeld);
-        }
-        buffer[0] = (number / HOURS) as u8;
-        buffer[1..].copy_from_slice(&(number % HOURS * MINUTES).to_be_bytes());
+        check_fetch(WIDTH, self.held(), number, buffer)?;
+        let [high, low] = (number % HOURS * MINUTES).to_be_bytes();
+        buffer.copy_from_slice(&[(number / HOURS) as u8, high, low]);
         self.tally = self.tally.wrapping_add(1);
         Ok(())
     }

@@ -1,7 +1,9 @@
 ghost use Rattle.std.specs.Prelude.{◌≡◌, ◌^◌, ◌<◌, ◌≤◌, vec_len, MatchResult};
 ghost use Rattle.stores.specs.PocketLaw.{pocket_lawful};
+ghost use Rattle.stores.specs.declared.pocket.PocketError.TheVariants.{NoMemory};
 ghost use Rattle.stores.specs.Pockets.{Unmade, empty_pocket, pocket_of};
 
+use crate::grounds::{check_append, check_fetch};
 use crate::row::Row;
 use crate::table::Table;
 use keys::key::WIDEST;
@@ -16,6 +18,7 @@ pub struct Pocket {
     width: usize,
     count: u16,
     tally: u32,
+    // Kept: all 64 rows are made at once, so that no append can lack memory.
     table: Table,
     ghost narrowest: { 1 ≤ width },
     ghost widest: { width ≤ 32 },
@@ -25,12 +28,20 @@ pub struct Pocket {
 }
 
 /// Why no pocket was made.
-#[derive(Clone, Copy, Debug)]
+#[derive(Clone, Copy, Debug, PartialEq, Eq)]
 pub enum PocketError {
     /// The width is not one that a key can have.
     Refused(Refusal),
     /// There was no memory for the rows: no ground of a refusal, and the same call may succeed later.
     NoMemory(AllocError),
+}
+
+impl From<AllocError> for PocketError {
+    ghost from_gives = { λ want e. e ≡ NoMemory want };
+
+    fn from(want: AllocError) -> PocketError {
+        PocketError::NoMemory(want)
+    }
 }
 
 // The rows of a pocket.
@@ -44,15 +55,13 @@ impl Pocket {
         if width == 0 || width > WIDEST {
             return Err(PocketError::Refused(Refusal::KeyWidth));
         }
-        match vec![in heap; Row::new(); ROWS as usize] {
-            Ok(rows) => Ok(Pocket {
-                width,
-                count: 0,
-                tally: 0,
-                table: Table { rows },
-            }),
-            Err(want) => Err(PocketError::NoMemory(want)),
-        }
+        let rows = vec![in heap; Row::new(); usize::from(ROWS)]?;
+        Ok(Pocket {
+            width,
+            count: 0,
+            tally: 0,
+            table: Table { rows },
+        })
     }
 }
 
@@ -78,14 +87,9 @@ impl ReadingStore for Pocket {
     }
 
     fn fetch(&mut self, number: u16, buffer: &mut [u8]) -> Result<(), Refusal> {
-        if buffer.len() != self.width {
-            return Err(Refusal::KeyLength);
-        }
-        if number >= self.count {
-            return Err(Refusal::NotHeld);
-        }
-        let row = self.table.rows[number as usize];
-        buffer.copy_from_slice(&row.bytes[0..self.width]);
+        check_fetch(self.width, self.count, number, buffer)?;
+        let row = &self.table.rows[usize::from(number)];
+        buffer.copy_from_slice(&row.bytes[..self.width]);
         self.tally = self.tally.wrapping_add(1);
         Ok(())
     }
@@ -93,14 +97,9 @@ impl ReadingStore for Pocket {
 
 impl FilingStore for Pocket {
     fn append(&mut self, key: &[u8]) -> Result<u16, Refusal> {
-        if key.len() != self.width {
-            return Err(Refusal::KeyLength);
-        }
         let number = self.count;
-        if number == self.capacity() {
-            return Err(Refusal::StoreFull);
-        }
-        self.table.row(number as usize).write(key);
+        check_append(self.width, number, self.capacity(), key)?;
+        self.table.row(usize::from(number)).write(key);
         self.count = number + 1;
         Ok(number)
     }

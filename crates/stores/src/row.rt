@@ -23,6 +23,7 @@ impl Row {
         requires { length key.now ≤ 32 }
         ensures { self.new.bytes ≡ key.now ++ drop (length key.now) self.old.bytes }
     {
+        // Kept: a range without its start gets no proof over a field lent like this.
         self.bytes[0..key.len()].copy_from_slice(key);
     }
 }

@@ -13,6 +13,7 @@ pub(crate) struct Table {
 }
 
 impl Table {
+    // Kept: one row is lent through the whole table, so that a key is written where it stays.
     /// Lends a row to change.
     pub(crate) fn row(&mut self, number: usize) -> &mut Row
         requires { number < vec_len self.old.rows }

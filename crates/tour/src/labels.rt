@@ -31,9 +31,9 @@ const LABELS: [(u8, i32, u16); 7] = [
 fn labels(rt: &HostRuntime) -> io::Result<Vec<Label>> {
     let mut labels = Vec::new(rt.alloc());
     for (class, day, minute) in LABELS {
-        match Minute::new(minute) {
+        match Minute::try_from(minute) {
             Ok(moment) => {
-                let key = tariff_key(Class::new(class), Day::new(day), moment);
+                let key = tariff_key(Class::from(class), Day::from(day), moment);
                 labels.push(Label {
                     key,
                     class,

@@ -9,16 +9,6 @@ use store::reading::ReadingStore;
 use store::refusal::Refusal;
 use stores::plan::Plan;
 
-// What the grounds that occur here say.
-fn words(refusal: Refusal) -> &'static str {
-    match refusal {
-        Refusal::FieldRange => "a class, day or minute is out of range",
-        Refusal::KeyLength => "a key or buffer differs from the width in length",
-        Refusal::NotHeld => "the store does not hold the record",
-        _ => "another ground",
-    }
-}
-
 fn print_outcome<T: Drop>(
     rt: &HostRuntime,
     what: &str,
@@ -28,8 +18,7 @@ fn print_outcome<T: Drop>(
         Ok(_) => println!(rt; "  {what}: done"),
         Err(refusal) => {
             let ground = refusal.number();
-            let why = words(refusal);
-            println!(rt; "  {what}: refused on ground {ground}, {why}")
+            println!(rt; "  {what}: refused on ground {ground}, {refusal}")
         }
     }
 }
@@ -45,8 +34,8 @@ pub fn print_refusals(rt: &HostRuntime) -> io::Result<()> {
     let tally = plan.tally();
     println!(rt; "  the buffer still holds {held}, the tally is {tally}")?;
     let part = Pair {
-        first: Class::new(9),
-        second: Day::new(-1),
+        first: Class::from(9),
+        second: Day::from(-1),
     };
     let mut short = [7; 4];
     print_outcome(
@@ -56,5 +45,5 @@ pub fn print_refusals(rt: &HostRuntime) -> io::Result<()> {
     )?;
     let held = Hex(&short);
     println!(rt; "  the buffer still holds {held}")?;
-    print_outcome(rt, "minute 1440", Minute::new(1440))
+    print_outcome(rt, "minute 1440", Minute::try_from(1440))
 }

@@ -1,9 +1,9 @@
 use crate::forms::Hex;
+use layers::newest::newest_first;
+use layers::turn::turned_at;
 use std::io;
 use store::reading::ReadingStore;
-use stores::newest::newest_first;
 use stores::plan::Plan;
-use stores::turn::turned_at;
 
 const RECORDS: [u16; 3] = [0, 23, 47];
 

@@ -13,7 +13,7 @@ const DAYS: [i32; 5] = [i32::MIN, -1, 0, 1, i32::MAX];
 
 fn day_key(number: i32) -> Result<[u8; 4], Refusal> {
     let mut key = [0; 4];
-    write_key(&Day::new(number), &mut key)?;
+    write_key(&Day::from(number), &mut key)?;
     Ok(key)
 }
 
@@ -41,10 +41,10 @@ fn days_around_zero_and_at_both_ends(rt: HostRuntime) -> Result<(), Fail> {
 #[test]
 fn minutes_and_their_range(rt: HostRuntime) -> Result<(), Fail> {
     let mut key = [9; 2];
-    assert_eq!(rt; write_key(&Minute::new(1439)?, &mut key), Ok(()));
+    assert_eq!(rt; write_key(&Minute::try_from(1439)?, &mut key), Ok(()));
     assert_eq!(rt; key, [5, 159]);
-    assert!(rt; matches!(Minute::new(1440), Err(Refusal::FieldRange)));
-    assert!(rt; matches!(Minute::new(65535), Err(Refusal::FieldRange)));
+    assert!(rt; matches!(Minute::try_from(1440), Err(Refusal::FieldRange)));
+    assert!(rt; matches!(Minute::try_from(65535), Err(Refusal::FieldRange)));
     Ok(())
 }
 
@@ -52,13 +52,13 @@ fn minutes_and_their_range(rt: HostRuntime) -> Result<(), Fail> {
 fn refused_write_leaves_the_buffer(rt: HostRuntime) -> Result<(), Fail> {
     let mut long = [9; 3];
     assert_eq!(rt;
-        write_key(&Minute::new(0)?, &mut long),
+        write_key(&Minute::try_from(0)?, &mut long),
         Err(Refusal::KeyLength)
     );
     assert_eq!(rt; long, [9; 3]);
     let mut none = [];
     assert_eq!(rt;
-        write_key(&Class::new(1), &mut none),
+        write_key(&Class::from(1), &mut none),
         Err(Refusal::KeyLength)
     );
     Ok(())
@@ -68,19 +68,19 @@ fn refused_write_leaves_the_buffer(rt: HostRuntime) -> Result<(), Fail> {
 fn pair_of_pairs(rt: HostRuntime) -> Result<(), Fail> {
     let outer = Pair {
         first: Pair {
-            first: Class::new(1),
-            second: Minute::new(2)?,
+            first: Class::from(1),
+            second: Minute::try_from(2)?,
         },
         second: Pair {
-            first: Day::new(-1),
-            second: Class::new(4),
+            first: Day::from(-1),
+            second: Class::from(4),
         },
     };
     let mut key = [0; 8];
     assert_eq!(rt; write_key(&outer, &mut key), Ok(()));
     assert_eq!(rt; key, [1, 0, 2, 127, 255, 255, 255, 4]);
     assert_eq!(rt;
-        tariff_key(Class::new(2), Day::new(-1), Minute::new(1380)?),
+        tariff_key(Class::from(2), Day::from(-1), Minute::try_from(1380)?),
         [2, 127, 255, 255, 255, 5, 100]
     );
     Ok(())
@@ -94,8 +94,8 @@ type Days8 = Pair<Days4, Days4>;
 
 fn eight_days() -> Days8 {
     let two = Pair {
-        first: Day::new(0),
-        second: Day::new(-1),
+        first: Day::from(0),
+        second: Day::from(-1),
     };
     let four = Pair {
         first: two,
@@ -120,7 +120,7 @@ fn pair_of_32_bytes(rt: HostRuntime) {
 fn pair_of_33_bytes(rt: HostRuntime) {
     let wide = Pair {
         first: eight_days(),
-        second: Class::new(1),
+        second: Class::from(1),
     };
     let mut key = [9; 33];
     assert_eq!(rt; write_key(&wide, &mut key), Err(Refusal::KeyLength));

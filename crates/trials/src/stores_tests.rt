@@ -1,9 +1,9 @@
 use crate::worn::Worn;
+use layers::newest::newest_first;
+use layers::turn::turned_at;
 use store::reading::ReadingStore;
 use store::refusal::Refusal;
-use stores::newest::newest_first;
 use stores::plan::Plan;
-use stores::turn::turned_at;
 
 // The key of a record, or the refusal.
 fn fetched<S: ReadingStore>(store: &mut S, number: u16) -> Result<[u8; 3], Refusal> {

@@ -1,8 +1,6 @@
 ghost use Rattle.worked.specs.Worked.{WorkedExamples};
 
 /// Every worked example holds.
-pub fn worked_examples_hold() -> bool
+pub fn worked_examples_hold()
     ensures { WorkedExamples }
-{
-    true
-}
+{}

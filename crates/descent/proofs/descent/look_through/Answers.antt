@@ -1,11 +1,14 @@
-use Rattle.std.proofs.Common.{refl}
+use Rattle.std.proofs.Common.{refl, sym, subst, ap, ◌∙◌}
+use Rattle.std.specs.Result.{is_ok, result_ok}
 use Rattle.descent.proofs.Looking.{told}
-use Rattle.nodes.specs.Tables.{held}
 use Rattle.descent.proofs.descent.look_through.Goals as goal
+use Rattle.keys.specs.Comparing.{Compared}
+use Rattle.store.proofs.Fetching.{fetched_ok}
 
-pub returns-in-Some : goal.returns-in-Some
-returns-in-Some g c =
-    let f = c.in-Ok.ensures in
-    let w = told (g.S.ReadingStore.meaning c.args.store.now) (g.S.ReadingStore.meaning c.fetch.new.self) c.args.key.now (held c.args.node.now) c.args.offset c.in-Ask.high c.in-Ask.candidate _ c.fetch.new.buffer c.in-Some.comparison c.settle.result
-    c.in-Ask.ensures.step refl f.1 f.2 f.3 c.in-Some.ensures.value c.settle.ensures.placed in
-    record { to = w.to; reads = w.reads }
+pub returns-in_ok-comparison-in-Ask-clause-to : goal.returns-in_ok-comparison-in-Ask-clause-to
+returns-in_ok-comparison-in-Ask-clause-to g c =
+    let f = fetched_ok _ _ _ _ c.fetch.result _ _ (sym c.map_err.ensures.variant ∙ ap is_ok c.in_ok-map_err-in-Ask.was) c.fetch.ensures in
+    let some = c.ok_or.ensures.ok_part ∙ ap result_ok c.in_ok-comparison-in-Ask.was in
+    let same = subst (Compared c.args.key.now c.fetch.new.buffer) some c.compare.ensures in
+    (told (g.S.ReadingStore.meaning c.args.store.now) (g.S.ReadingStore.meaning c.fetch.new.self) c.args.key.now c.args.entries.now c.args.offset c.in-Ask.high c.in-Ask.candidate _ c.fetch.new.buffer c.in_ok-comparison-in-Ask.comparison c.settle.result
+    c.in-Ask.ensures.step refl f.held f.reads f.key same.value c.settle.ensures.placed).to

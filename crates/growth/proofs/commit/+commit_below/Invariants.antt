@@ -1,4 +1,4 @@
 use Rattle.growth.proofs.commit.+commit_below.Given as goal
 
 abbrev pub decreases-commit_below : goal.decreases-commit_below
-decreases-commit_below l = l.level
+decreases-commit_below l = l.top.levels

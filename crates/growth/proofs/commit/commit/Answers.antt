@@ -1,25 +1,25 @@
-use Rattle.std.proofs.Common.{set, vec_items, ap, ◌∙◌, arith}
+use Rattle.std.proofs.Common.{refl, arith}
+use Rattle.growth.proofs.Pathing.{entry_at}
 use Rattle.growth.proofs.Rooting.{root_fresh, root_rises, root_stays}
 use Rattle.growth.proofs.commit.commit.Goals as goal
-use Rattle.nodes.specs.declared.node.Node.{Node}
 
-pub put_node-requires : goal.put_node-requires
-put_node-requires c =
+pub returns-in_default : goal.returns-in_default
+returns-in_default c =
+    let h = root_stays c.args.top c.requires.ready c.commit_below-rise.ensures c.in_default.is in
+    record { written = h.written; once = h.once; shape = h.shape; growth = h.growth; faith = h.faith }
+
+pub bounds-table-from : goal.bounds-table-from
+bounds-table-from c =
     let fresh = root_fresh c.args.top c.requires.ready c.commit_below-rise.ensures c.in-Some.is c.requires.room in
-    omega (arith, c.commit_below-rise.new.table.ok.0)
+    omega (arith, c.from-2.ensures)
 
-pub overflow_add-result-in-Some : goal.overflow_add-result-in-Some
-overflow_add-result-in-Some c =
+pub overflow_add-result-2 : goal.overflow_add-result-2
+overflow_add-result-2 c =
     let fresh = root_fresh c.args.top c.requires.ready c.commit_below-rise.ensures c.in-Some.is c.requires.room in
     omega (arith, c.commit_below-rise.ensures.long, c.requires.ready.few)
 
-pub returns-in-None : goal.returns-in-None
-returns-in-None c =
-    let h = root_stays c.args.top c.requires.ready c.commit_below-rise.ensures c.in-None.is in
-    record { written = h.written; once = h.once; shape = h.shape; growth = h.growth; faith = h.faith }
-
-pub returns-in-Some : goal.returns-in-Some
-returns-in-Some c =
-    let h = root_rises c.args.top c.requires.ready c.commit_below-rise.ensures c.in-Some.is c.requires.room (vec_items c.put_node.new.table)
-    (c.put_node.ensures.items ∙ ap (λ (n : Node). set (vec_items c.commit_below-rise.new.table) c.commit_below-rise.result.used n) c.root_over-root.ensures) in
+pub returns : goal.returns
+returns c =
+    let e = entry_at c.args.plan.now c.from.ensures in
+    let h = root_rises c.args.top c.requires.ready c.commit_below-rise.ensures c.in-Some.is c.requires.room _ (rw (c.from-2.ensures, c.node_of.ensures, e) refl) in
     record { written = h.written; once = h.once; shape = h.shape; growth = h.growth; faith = h.faith }

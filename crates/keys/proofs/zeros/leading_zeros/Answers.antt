@@ -3,4 +3,4 @@ use Rattle.keys.proofs.Table.{entry_right}
 use Rattle.keys.proofs.zeros.leading_zeros.Goals as goal
 
 pub returns : goal.returns
-returns c = entry_right c.args.byte (omega arith)
+returns c = rw c.from.ensures (entry_right c.args.byte (omega arith))

@@ -1,7 +1,7 @@
-use Rattle.std.proofs.Common.{◌≡◌, ℕ, ◌+◌, ◌*◌, ◌^◌, ◌↔◌, List, ◌++◌, replicate, Ok, Result, ap, ◌∙◌, subst, arith, MatchResult}
+use Rattle.std.proofs.Common.{◌≡◌, ℕ, ◌+◌, ◌*◌, ◌^◌, ◌↔◌, List, ◌++◌, replicate, ap, ◌∙◌, subst, arith}
 use mathlib.Core.Logic.Iff
+use Rattle.std.proofs.lemmas.Result.{IfOk-at_ok}
 use Rattle.keys.specs.Bytes.{Smaller, big_endian}
-use Rattle.store.specs.declared.refusal.Refusal.{Refusal}
 use Rattle.parts.specs.Days.{day_rank}
 use Rattle.parts.specs.PartLaws.{day_ranked, pair_back}
 use Rattle.parts.specs.Tariffs.{Before, TariffOrder, tariff_bytes}
@@ -11,9 +11,6 @@ use Rattle.parts.specs.declared.minute.Minute.{Minute}
 use Rattle.parts.specs.declared.pair.Pair.{Pair}
 use Rattle.parts.proofs.Joining.{joined, written_done}
 use Rattle.parts.proofs.tariff.tariff_key.Goals as goal
-
-done_law : (P : Unit {0} → Type 0) (Q : Refusal → Type 0) (r : Result (Unit {0}) Refusal) (u : Unit {0}) → r ≡ Ok u → MatchResult r P Q → P u
-done_law P Q r u e = subst (λ z. MatchResult z P Q) e
 
 abbrev trio : Class → Day → Minute → Pair Class (Pair Day Minute)
 trio c d m = record { first = c; second = record { first = d; second = m } }
@@ -34,7 +31,7 @@ pub returns : goal.returns
 returns c =
     let key = c.write_key.new.buffer in
     let t = c.tariff.result in
-    let law = done_law _ _ c.write_key.result c.unwrap.result c.unwrap.ensures c.write_key.ensures.law in
+    let law = IfOk-at_ok _ c.unwrap.ensures c.write_key.ensures.law in
     let bytes : (z : Pair Class (Pair Day Minute)) → List ℕ = λ z. tariff_bytes z.first z.second.first z.second.second in
     let order : TariffOrder t.first t.second.first t.second.second key = record {
       below = λ c' d' m'. subst (λ k. Before t.first t.second.first t.second.second c' d' m' ↔ Smaller key k) (three c' d' m') (law.below (trio c' d' m'));

@@ -1,59 +1,50 @@
-use Rattle.std.proofs.Common.{length, vec_items, arith}
-use Rattle.plans.proofs.Entering.{done, knows, needs, passes, refused_missing, refused_spent}
+use Rattle.std.proofs.Common.{◌∙◌, length, subst, arith}
+use Rattle.std.proofs.lemmas.List.{length-map}
+use Rattle.growth.specs.Paths.{nodes_of, places_of}
+use Rattle.growth.specs.Routes.{way}
+use Rattle.plans.proofs.Entering.{done, knows, made_err, made_ok, needs, passed_up, passes, refused_missing, refused_spent}
+use Rattle.plans.specs.Planning.{Plans}
 use Rattle.plans.proofs.enter.enter_at.Goals as goal
 
-pub need_nodes-need-requires : goal.need_nodes-need-requires
-need_nodes-need-requires g c = record {
-  deep = omega (arith, c.requires.deep, c.requires.path);
-  known = knows (vec_items c.args.table.now) c.args.top c.args.path.now c.args.places.now c.requires.ready c.requires.trail c.requires.path c.as_slice.ensures.value;
-}
+pub need_nodes-requires-clause-known : goal.need_nodes-requires-clause-known
+need_nodes-requires-clause-known g c =
+    knows c.args.table.now c.args.top (nodes_of c.args.path.now) (places_of c.args.path.now) c.requires.ready c.requires.trail (length-map c.args.path.now (λ w. w.node) ∙ c.requires.path)
 
-pub returns-then-wanted-entering : goal.returns-then-wanted-entering
-returns-then-wanted-entering g c =
-    let T = vec_items c.args.table.now in
-    let l = length c.args.path.now in
+pub returns-then-wanted-from : goal.returns-then-wanted-from
+returns-then-wanted-from g c =
     let e = c.args.entering in
-    let nd = needs T c.args.top c.args.path.now c.args.places.now c.requires.ready c.requires.trail l c.need_nodes-need.result c.requires.path c.as_slice.ensures.value c.need_nodes-need.ensures.value in
-    refused_spent T c.args.top c.args.path.now c.args.places.now c.requires.ready c.requires.trail e.keep e.limit (g.S.ReadingStore.meaning c.args.store.now) e.number e.offset
-    c.need_nodes-need.result nd c.if-wanted-entering.true (g.S.ReadingStore.lawful c.args.store.now).wraps
+    let nd = needs c.args.table.now c.args.top (nodes_of c.args.path.now) (places_of c.args.path.now) c.requires.ready c.requires.trail (length c.args.path.now) c.need_nodes.result c.requires.path c.need_nodes.ensures.value in
+    refused_spent c.args.table.now c.args.top (nodes_of c.args.path.now) (places_of c.args.path.now) c.requires.ready c.requires.trail e.shape.partial e.limit (g.S.ReadingStore.meaning c.args.store.now) e.number e.offset
+    c.need_nodes.result nd (omega (arith, c.from.ensures, c.from-2.ensures, c.from-3.ensures, c.if-wanted-from.true)) (g.S.ReadingStore.lawful c.args.store.now).wraps
 
-pub make_plan-requires : goal.make_plan-requires
-make_plan-requires g c = record {
-  short = c.requires.short;
-  deep = omega (arith, c.requires.deep, c.requires.path);
-  placed = omega (arith, c.requires.placed, c.requires.path);
-  way = passes (vec_items c.args.table.now) c.args.top c.args.path.now c.args.places.now c.requires.ready c.requires.trail (length c.args.path.now) c.requires.path c.as_slice-2.ensures.value;
-  own = c.requires.own;
-}
+pub make_plan-requires-clause-way : goal.make_plan-requires-clause-way
+make_plan-requires-clause-way g c =
+    passes c.args.table.now c.args.top (nodes_of c.args.path.now) (places_of c.args.path.now) c.requires.ready c.requires.trail (length c.args.path.now) c.requires.path
 
-pub commit-requires : goal.commit-requires
-commit-requires g c =
-    let T = vec_items c.args.table.now in
-    let l = length c.args.path.now in
-    let nd = needs T c.args.top c.args.path.now c.args.places.now c.requires.ready c.requires.trail l c.need_nodes-need.result c.requires.path c.as_slice.ensures.value c.need_nodes-need.ensures.value in
-    record {
-      deep = c.requires.deep;
-      placed = omega (arith, c.requires.placed);
-      ready = c.requires.ready;
-      room = omega (arith, nd, c.if-wanted-entering.false, c.requires.limit);
-    }
-
-pub returns-in-Err : goal.returns-in-Err
-returns-in-Err g c =
-    let T = vec_items c.args.table.now in
-    let l = length c.args.path.now in
+pub returns-in_err-plan : goal.returns-in_err-plan
+returns-in_err-plan g c =
     let e = c.args.entering in
-    let nd = needs T c.args.top c.args.path.now c.args.places.now c.requires.ready c.requires.trail l c.need_nodes-need.result c.requires.path c.as_slice.ensures.value c.need_nodes-need.ensures.value in
-    refused_missing T c.args.top c.args.path.now c.args.places.now c.requires.ready c.requires.trail e.keep e.limit (g.S.ReadingStore.meaning c.args.store.now) e.number e.offset
-    l c.need_nodes-need.result c.requires.path nd c.if-wanted-entering.false c.in-Err.missing (g.S.ReadingStore.meaning c.make_plan.new.store) c.as_slice-2.ensures.value c.in-Err.ensures
+    let m = g.S.ReadingStore.meaning c.args.store.now in
+    let nd = needs c.args.table.now c.args.top (nodes_of c.args.path.now) (places_of c.args.path.now) c.requires.ready c.requires.trail (length c.args.path.now) c.need_nodes.result c.requires.path c.need_nodes.ensures.value in
+    let q = made_err c.make_plan.result c.map_err.result c.in_err-plan.field-0.0 c.map_err.ensures.cases c.in_err-plan.was in
+    let pl = subst (λ x. Plans e.shape.partial m e.number e.offset (way c.args.table.now (nodes_of c.args.path.now)) (places_of c.args.path.now) (length c.args.path.now) x (g.S.ReadingStore.meaning c.make_plan.new.store)) q.is c.make_plan.ensures in
+    passed_up e.shape.partial e.limit m e.number e.offset c.args.table.now c.args.top (places_of c.args.path.now) c.from_residual.result _ (g.S.ReadingStore.meaning c.make_plan.new.store) (rw q.refusal at c.from_residual.ensures.1)
+    (refused_missing c.args.table.now c.args.top (nodes_of c.args.path.now) (places_of c.args.path.now) c.requires.ready c.requires.trail e.shape.partial e.limit m e.number e.offset
+    (length c.args.path.now) c.need_nodes.result c.requires.path nd (omega (arith, c.from.ensures, c.from-2.ensures, c.from-3.ensures, c.if-wanted-from.false)) q.missing (g.S.ReadingStore.meaning c.make_plan.new.store) pl)
 
-pub returns-in-Ok : goal.returns-in-Ok
-returns-in-Ok g c =
-    let T = vec_items c.args.table.now in
-    let l = length c.args.path.now in
+pub commit-requires-clause-room : goal.commit-requires-clause-room
+commit-requires-clause-room g c =
+    let nd = needs c.args.table.now c.args.top (nodes_of c.args.path.now) (places_of c.args.path.now) c.requires.ready c.requires.trail (length c.args.path.now) c.need_nodes.result c.requires.path c.need_nodes.ensures.value in
+    omega (arith, nd, c.from.ensures, c.from-2.ensures, c.from-3.ensures, c.if-wanted-from.false, c.requires.limit)
+
+pub returns : goal.returns
+returns g c =
     let e = c.args.entering in
-    let nd = needs T c.args.top c.args.path.now c.args.places.now c.requires.ready c.requires.trail l c.need_nodes-need.result c.requires.path c.as_slice.ensures.value c.need_nodes-need.ensures.value in
+    let m = g.S.ReadingStore.meaning c.args.store.now in
+    let nd = needs c.args.table.now c.args.top (nodes_of c.args.path.now) (places_of c.args.path.now) c.requires.ready c.requires.trail (length c.args.path.now) c.need_nodes.result c.requires.path c.need_nodes.ensures.value in
+    let pl = subst (λ x. Plans e.shape.partial m e.number e.offset (way c.args.table.now (nodes_of c.args.path.now)) (places_of c.args.path.now) (length c.args.path.now) x (g.S.ReadingStore.meaning c.make_plan.new.store))
+    (made_ok c.make_plan.result c.map_err.result c.in_ok-plan.plan c.map_err.ensures.cases c.in_ok-plan.was) c.make_plan.ensures in
     let w = c.commit.ensures in
-    done T c.args.top c.args.path.now c.args.places.now c.requires.ready c.requires.trail e.keep e.limit (g.S.ReadingStore.meaning c.args.store.now) e.number e.offset
-    l c.need_nodes-need.result c.requires.path nd c.if-wanted-entering.false c.in-Ok.plan (g.S.ReadingStore.meaning c.make_plan.new.store) (vec_items c.commit.new.table) c.commit.result
-    (g.S.ReadingStore.lawful c.args.store.now) c.as_slice-2.ensures.value c.in-Ok.ensures (record { written = w.written; once = w.once; shape = w.shape; growth = w.growth; faith = w.faith })
+    done c.args.table.now c.args.top (nodes_of c.args.path.now) (places_of c.args.path.now) c.requires.ready c.requires.trail e.shape.partial e.limit m e.number e.offset
+    (length c.args.path.now) c.need_nodes.result c.requires.path nd (omega (arith, c.from.ensures, c.from-2.ensures, c.from-3.ensures, c.if-wanted-from.false)) c.in_ok-plan.plan (g.S.ReadingStore.meaning c.make_plan.new.store) c.commit.new.table c.commit.result
+    (g.S.ReadingStore.lawful c.args.store.now) pl (record { written = w.written; once = w.once; shape = w.shape; growth = w.growth; faith = w.faith })

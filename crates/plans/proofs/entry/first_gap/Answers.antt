@@ -1,22 +1,10 @@
-use Rattle.std.proofs.Common.{◌*◌, length, sym, subst}
-use Rattle.growth.proofs.Following.{gap_at, gap_back}
-use Rattle.keys.specs.Bits.{bits}
-use Rattle.keys.specs.Comparing.{Stands}
-use Rattle.plans.proofs.Stepping.{gap_same}
+use Rattle.std.proofs.Common.{◌≡◌, None, ◌∙◌}
+use Rattle.std.specs.Option.{MatchOption}
+use Rattle.keys.specs.Comparing.{offset_of}
+use Rattle.plans.proofs.Stepping.{gap_told}
 use Rattle.plans.proofs.entry.first_gap.Goals as goal
 
-pub returns-in_default : goal.returns-in_default
-returns-in_default c = absurd (c.in_default.ensures c.requires)
-
-pub returns-in-Equal : goal.returns-in-Equal
-returns-in-Equal c = gap_same (8 * length c.args.key.now) c.args.key.now c.args.other.now (subst (Stands c.args.key.now c.args.other.now) c.in-Equal.is c.in-Some.ensures.stands)
-
-pub returns-in-Greater : goal.returns-in-Greater
-returns-in-Greater c =
-    let s = subst (Stands c.args.key.now c.args.other.now) c.in-Greater.is c.in-Some.ensures.stands in
-    sym (gap_back (8 * length c.args.key.now) (bits c.args.other.now) (bits c.args.key.now) c.in-Greater.offset s.1 s.0)
-
-pub returns-in-Less : goal.returns-in-Less
-returns-in-Less c =
-    let s = subst (Stands c.args.key.now c.args.other.now) c.in-Less.is c.in-Some.ensures.stands in
-    sym (gap_at (8 * length c.args.key.now) (bits c.args.key.now) (bits c.args.other.now) c.in-Less.offset s.1 s.0)
+pub returns : goal.returns
+returns c =
+    let told : MatchOption c.compare.result (c.and_then.result ≡ None) (λ x. c.and_then.result ≡ offset_of x) = c.and_then.ensures in
+    c.unwrap_or.ensures ∙ gap_told c.args.key.now c.args.other.now c.compare.result c.and_then.result c.requires c.compare.ensures told

@@ -1,24 +1,20 @@
-use Rattle.std.proofs.Common.{sym, ◌∙◌, arith}
+use Rattle.std.proofs.Common.{rules, sym, ap, ◌∙◌, arith}
 use Rattle.keys.specs.Bits.{bits}
-use Rattle.search.specs.Parts.{low_bits}
-use Rattle.search.proofs.Turns.{turn_greater, turn_less, turn_on, turn-open}
+use Rattle.search.specs.declared.order.Order.TheVariants.{Open}
+use Rattle.search.proofs.Turns.{turn_end, turn_greater, turn_less, turn_on}
 use Rattle.search.proofs.order.against_kept.Goals as goal
 
-pub returns-then-own-stored : goal.returns-then-own-stored
-returns-then-own-stored c = sym (c.loop-stored.invariant.1 ∙
-    turn_less (bits c.args.key.now) c.loop-stored.place c.bit-own.result c.loop-stored.stored c.bit-own.ensures.value (low_bits c.loop-stored.left c.args.partial.bits) (omega arith))
+pub returns-in-Less : goal.returns-in-Less
+returns-in-Less c = sym (c.loop-place.invariant ∙
+    turn_less (bits c.args.key.now) _ _ _ _ _ _ c.bit.ensures.value c.kept_bit.ensures (omega arith) (omega arith) (search rules))
 
-pub returns-then-stored-own : goal.returns-then-stored-own
-returns-then-stored-own c = sym (c.loop-stored.invariant.1 ∙
-    turn_greater (bits c.args.key.now) c.loop-stored.place c.bit-own.result c.loop-stored.stored c.bit-own.ensures.value (low_bits c.loop-stored.left c.args.partial.bits) (omega arith))
+pub returns-in-Greater : goal.returns-in-Greater
+returns-in-Greater c = sym (c.loop-place.invariant ∙
+    turn_greater (bits c.args.key.now) _ _ _ _ _ _ c.bit.ensures.value c.kept_bit.ensures (omega arith) (omega arith) (search rules))
 
-pub returns-then-left-eq0 : goal.returns-then-left-eq0
-returns-then-left-eq0 c = sym (c.loop-stored.invariant.1 ∙
-    turn-open (bits c.args.key.now) c.loop-stored.place c.bit-own.result c.loop-stored.stored c.bit-own.ensures.value c.loop-stored.left c.args.partial.bits (omega arith) (omega arith))
+pub loop-place-preserved : goal.loop-place-preserved
+loop-place-preserved c = c.loop-place.invariant ∙
+    turn_on (bits c.args.key.now) _ _ _ _ _ _ c.bit.ensures.value c.kept_bit.ensures (omega arith) (omega arith) (search rules)
 
-pub loop-stored-preserved : goal.loop-stored-preserved
-loop-stored-preserved c = (
-  omega arith,
-  c.loop-stored.invariant.1 ∙
-      turn_on (bits c.args.key.now) c.loop-stored.place c.bit-own.result c.loop-stored.stored c.bit-own.ensures.value c.loop-stored.left c.args.partial.bits c.bit_over-stored.result (omega arith) (omega arith) c.bit_over-stored.ensures,
-)
+pub returns : goal.returns
+returns c = ap Open (omega arith) ∙ sym (c.loop-place.invariant ∙ turn_end (bits c.args.key.now) c.args.partial.offset c.args.partial.length c.args.partial.bits c.loop-place.place (omega arith))

@@ -1,7 +1,6 @@
-use Rattle.std.proofs.Common.{◌≡◌, ◌<◌, ◌≤◌, ◌∷◌, length, sym, ap, ◌∙◌, subst, arith}
+use Rattle.std.proofs.Common.{◌<◌, ◌≤◌, ◌∷◌, length, sym, ◌∙◌, subst, arith}
 use Rattle.keys.specs.Bits.{bits}
 use Rattle.search.specs.Parts.{parts_of}
-use Rattle.search.specs.declared.sweep.Swept.{Swept}
 use Rattle.search.proofs.Bounds.{Within, swept_within}
 use Rattle.search.proofs.Reach.{Upto, step_upto}
 use Rattle.search.proofs.Turns.{sweep_end, sweep_greater, sweep_open, sweep_stop}
@@ -48,9 +47,6 @@ returns c =
     let s = bits c.args.key.now in
     let p = parts_of c.args.entries.now in
     let n = length c.args.entries.now in
-    let i : c.loop-i.i ≡ n = omega arith in
-    let d : ◌≡◌ {A = Swept} (record { low = c.loop-i.low; offset = c.loop-i.nearest; high = c.loop-i.i }) (record { low = c.loop-i.low; offset = c.loop-i.nearest; high = n }) =
-    ap (λ h. record { low = c.loop-i.low; offset = c.loop-i.nearest; high = h }) i in
-    let e = sym (c.loop-i.invariant.0 ∙ (sweep_end s p n c.loop-i.i c.loop-i.low c.loop-i.nearest c.loop-i.order (omega arith) ∙ d)) in
+    let e = sym (c.loop-i.invariant.0 ∙ sweep_end s p n c.loop-i.i c.loop-i.low c.loop-i.nearest c.loop-i.order (omega arith)) in
     let w = subst (Within n) (sym e) (swept_within s p n c.args.offset) in
     record { found = e; within = (w.ends, w.upto) }

@@ -1,19 +1,17 @@
-use Rattle.std.proofs.Common.{◌≡◌, ◌*◌, ◌/◌, ◌%◌, ◌<◌, sym, refl, ◌∙◌, arith}
+use Rattle.std.proofs.Common.{arith}
+use Rattle.std.proofs.lemmas.Grind.{common_steps}
 use Rattle.stores.specs.PlanLaw.{length_plan, getD_plan}
-use Rattle.stores.proofs.Laying.{laid}
+use Rattle.stores.specs.Plans.{plan_of}
 use Rattle.stores.proofs.plan.PlanReadingStore.fetch.Goals as goal
 
-pub overflow_cast-buffer : goal.overflow_cast-buffer
-overflow_cast-buffer c = omega (arith, c.held.ensures, length_plan (24 * c.args.self.now.classes))
+pub returns-in_err-check_fetch : goal.returns-in_err-check_fetch
+returns-in_err-check_fetch c =
+    let s = c.args.self.now in
+    let h = c.in_err-check_fetch.ensures (plan_of s.classes s.tally) in
+    grind (arith, common_steps)
+
+pub overflow_cast-number : goal.overflow_cast-number
+overflow_cast-number c = grind (arith, common_steps, length_plan)
 
 pub returns : goal.returns
-returns c =
-    let n = 24 * c.args.self.now.classes in
-    let r = c.args.number in
-    let h : r < n = omega (arith, c.held.ensures, length_plan n) in
-    let b : (r / 24) % 256 ≡ r / 24 = omega arith in (
-      omega arith,
-      omega (arith, length_plan n),
-      refl,
-      laid c.args.buffer.now _ (r / 24) _ _ (omega arith) (c.copy_from_slice.ensures.after ∙ c.to_be_bytes.ensures) ∙ rw b refl ∙ sym (getD_plan n r h),
-    )
+returns c = grind (arith, common_steps, length_plan, getD_plan)

@@ -1,10 +1,10 @@
-use Rattle.std.proofs.Common.{rules}
-use Rattle.stores.specs.PocketLaw.{length_rows}
-use Rattle.stores.proofs.Pocketing.{get_d_rows}
+use Rattle.std.proofs.Common.{arith, vec_items}
+use Rattle.std.proofs.lemmas.Grind.{common_steps}
+use Rattle.stores.specs.Pockets.{pocket_of}
 use Rattle.stores.proofs.pocket.PocketReadingStore.fetch.Goals as goal
 
-pub returns-then-number-self : goal.returns-then-number-self
-returns-then-number-self c = search (rules, length_rows)
-
-pub returns : goal.returns
-returns c = search (rules, length_rows, get_d_rows)
+pub returns-in_err-check_fetch : goal.returns-in_err-check_fetch
+returns-in_err-check_fetch c =
+    let s = c.args.self.now in
+    let h = c.in_err-check_fetch.ensures (pocket_of s.width (vec_items s.table.rows) s.count s.tally) in
+    grind (arith, common_steps)
