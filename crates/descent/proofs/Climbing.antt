@@ -6,7 +6,7 @@ use Rattle.descent.proofs.Extending.{Alike, long, low, push_alike, push_top, zer
 use Rattle.descent.proofs.Filling.{add_more, add_none}
 use Rattle.descent.proofs.Routing.{turn_end}
 use Rattle.descent.proofs.Standing.{Stands, not_gone, stands}
-use Rattle.descent.proofs.Trailing.{kid_is, readable_kid}
+use Rattle.descent.proofs.Trailing.{readable_kid}
 use Rattle.descent.proofs.Turning.{InTurn, ended, rest_ended, rest-turn, turn_within}
 use Rattle.descent.specs.Course.{course, course_on, turn}
 use Rattle.descent.specs.Reading.{Adds, DescentOf, Readable, end_of, records_after}
@@ -16,6 +16,7 @@ use Rattle.descent.specs.declared.walk.Walked.{Walked}
 use Rattle.growth.specs.Paths.{nodes_of, places_of}
 use Rattle.keys.specs.Digits.{Digits}
 use Rattle.keys.specs.declared.comparison.Comparison.{Comparison}
+use Rattle.nodes.proofs.Shapes.{kid_is}
 use Rattle.nodes.specs.Tables.{held, links, no_node, tree_of}
 use Rattle.nodes.specs.Trees.{Tree, bare, records}
 use Rattle.nodes.specs.declared.node.Node.{Node}

@@ -1,46 +1,35 @@
 -- Where a descent stands: what was fetched and passed, and what is left of the search.
-use Rattle.std.proofs.Common.{◌≡◌, ℕ, zero, suc, ◌+◌, ◌-◌, ◌%◌, ◌^◌, ◌<◌, ◌≤◌, List, [], ◌∷◌, ◌++◌, map, length, get_or, take, set, replicate, None, Ok, Err, Option, Result, sym, refl, ap, ◌∙◌, subst, arith}
-use Rattle.std.specs.Result.{IsErrAnd}
+use Rattle.std.proofs.Common.{◌≡◌, ℕ, zero, suc, ◌-◌, ◌<◌, ◌≤◌, List, [], ◌∷◌, ◌++◌, map, length, get_or, take, set, replicate, None, Ok, Err, Option, Result, sym, refl, ap, ◌∙◌, subst, arith}
 use Rattle.std.proofs.lemmas.List.{append_assoc, append-nil, length-append, length-set, map-set, take-replicate}
-use Rattle.descent.proofs.Trailing.{kid_is, readable_kid, readable_old}
+use Rattle.std.proofs.Math.Seq.{take-set-lt}
+use Rattle.descent.proofs.Trailing.{readable_kid, readable_old}
 use Rattle.descent.proofs.Turning.{InTurn, ended, joined, seek-turn, turn_within}
 use Rattle.descent.specs.Course.{Course, Turn, course, course_on, turn}
 use Rattle.descent.specs.Reading.{DescentOf, Descends, Readable}
-use Rattle.descent.specs.declared.descent.Descent.{Descent}
-use Rattle.descent.specs.declared.descent.Ending.TheVariants.{Found as At, Gap}
+use Rattle.descent.specs.declared.descent.Ending.TheVariants.{Found as At}
 use Rattle.growth.proofs.Pathing.{no_waypoint}
-use Rattle.growth.proofs.Placing.{set_taken}
 use Rattle.growth.specs.Paths.{nodes_of, places_of}
 use Rattle.growth.specs.declared.path.Waypoint.{Waypoint}
 use Rattle.keys.specs.Bits.{bits}
-use Rattle.keys.specs.Digits.{Digits}
-use Rattle.keys.specs.declared.comparison.Comparison.{Comparison}
+use Rattle.nodes.proofs.Shapes.{kid_is}
 use Rattle.nodes.specs.Tables.{Packed, held, links, no_node, tree_of}
 use Rattle.nodes.specs.Trees.{Tree, bare, no_entry}
 use Rattle.nodes.specs.declared.node.Node.{Node}
-use Rattle.search.specs.NodeLaw.{InNode}
-use Rattle.search.specs.Seek.{Sought, found, gap, gone, neighbour, over_at, seek, sought, under_at}
+use Rattle.search.specs.Seek.{Sought, found, over_at, seek, sought, under_at}
 use Rattle.search.specs.TreeLaw.{fetching}
-use Rattle.search.specs.declared.neighbour.Neighbour.{Neighbour}
 use Rattle.search.specs.declared.place.Placement.{Placement}
 use Rattle.search.specs.declared.place.Placement.TheVariants.{Found, Place}
+use Rattle.store.proofs.Fetching.{more_reads, no_reads}
 use Rattle.store.specs.Meaning.{Lawful, Meaning, after_reads}
 use Rattle.store.specs.declared.reading.Missing.{Missing}
-
-pub reads_none : (m : Meaning) → Lawful m → after_reads 0 m ≡ m
-reads_none m law = let e : (m.tally + 0) % 2 ^ 32 ≡ m.tally = omega (arith, law.wraps) in ap (λ (k : ℕ). let z : Meaning = record { width = m.width; keys = m.keys; capacity = m.capacity; tally = k } in z) e
-
-pub reads_more : (m : Meaning) (j k : ℕ) → after_reads k (after_reads j m) ≡ after_reads (j + k) m
-reads_more m j k =
-    let e : ((m.tally + j) % 2 ^ 32 + k) % 2 ^ 32 ≡ (m.tally + (j + k)) % 2 ^ 32 = omega arith in ap (λ (k : ℕ). let z : Meaning = record { width = m.width; keys = m.keys; capacity = m.capacity; tally = k } in z) e
 
 set_zeros : (l v : ℕ) (ys : List ℕ) → set (replicate (suc l) 0 ++ ys) l v ≡ replicate l 0 ++ (v ∷ ys)
 set_zeros zero v ys = refl
 set_zeros (suc l) v ys = ap (λ zs. 0 ∷ zs) (set_zeros l v ys)
 
 -- a waypoint put into a path: what is read of it, which was zero up to its height
-put : (f : Waypoint → ℕ) (n : ℕ) (path : List Waypoint) (l : ℕ) (w : Waypoint) (ys : List ℕ) → take n (map f path) ≡ replicate (suc l) 0 ++ ys → take n (map f (set path l w)) ≡ replicate l 0 ++ (f w ∷ ys)
-put f n path l w ys h = ap (take n) (map-set f path l w) ∙ (set_taken n l (map f path) (f w) ∙ (ap (λ zs. set zs l (f w)) h ∙ set_zeros l (f w) ys))
+put : (f : Waypoint → ℕ) (n : ℕ) (path : List Waypoint) (l : ℕ) (w : Waypoint) (ys : List ℕ) → l < n → take n (map f path) ≡ replicate (suc l) 0 ++ ys → take n (map f (set path l w)) ≡ replicate l 0 ++ (f w ∷ ys)
+put f n path l w ys lt h = ap (take n) (map-set f path l w) ∙ (take-set-lt n (map f path) l (f w) lt ∙ (ap (λ zs. set zs l (f w)) h ∙ set_zeros l (f w) ys))
 
 glue : (xs ys : List ℕ) (z : Sought) → joined xs (joined ys z) ≡ joined (xs ++ ys) z
 glue xs ys z = ap (λ (w : List ℕ). let r : Sought = record { end = z.end; fetched = w } in r) (sym (append_assoc xs ys z.fetched))
@@ -73,7 +62,7 @@ going_start m table key used levels root law few h =
     record {
       used = used;
       done = [];
-      rose = sym (reads_none m law);
+      rose = no_reads m law.wraps;
       search = refl;
       passed = record { over = []; over_places = []; through = z; at_places = z; same_nodes = sym (append-nil k.nodes); same_places = sym (append-nil k.places); same_offset = refl; same_bottom = refl };
       safe = h;
@@ -81,34 +70,11 @@ going_start m table key used levels root law few h =
       long = refl;
     }
 
--- a search that ends at a record that the store lacks
-pub lost : (s : Digits) (fetch : ℕ → Option Comparison) (l : ℕ) (t : Tree l) (res : Result Descent Missing) (e : Missing) → IsErrAnd res (λ x. x ≡ e) → (sought s fetch l t).end ≡ gone e.number → Descends s fetch l t res
-lost s fetch l t (Ok d) e is h = absurd is
-lost s fetch l t (Err x) e is h = h ∙ ap (λ (z : Missing). gone z.number) (sym is)
-
 -- one level down
 pub level_down : {m₀ m : Meaning} {table : List Node} {key : List ℕ} {levels root level at : ℕ} {b : Option ℕ} {o : ℕ} {a : Option ℕ} {path : List Waypoint} →
     Going m₀ m table key levels root level at b o a path → 0 < level → Going m₀ m table key levels root (suc (level - 1)) at b o a path
 level_down {m₀} {m} {table} {key} {levels} {root} {level} {at} {b} {o} {a} {path} g pos =
     let e : level ≡ suc (level - 1) = omega arith in subst (λ (z : ℕ). Going m₀ m table key levels root z at b o a path) e g
-
--- at the empty tree
-pub going_end : {m₀ m : Meaning} {table : List Node} {key : List ℕ} {levels root level at : ℕ} {b : Option ℕ} {o : ℕ} {a : Option ℕ} {path : List Waypoint} →
-    Going m₀ m table key levels root level at b o a path → level ≡ 0 → (below : Option Neighbour) → below ≡ neighbour b o →
-    DescentOf (bits key) (fetching m₀ key) levels (tree_of table levels root) (record { ending = Gap below a; bottom = 0; path = path; offset = o })
-    × (m ≡ after_reads (length (sought (bits key) (fetching m₀ key) levels (tree_of table levels root)).fetched) m₀)
-going_end {level = zero} {a = a} g z below is = (
-  record {
-    end = ap (λ (x : Sought). x.end) g.search ∙ ap (λ x. gap x a) (sym is);
-    nodes = g.passed.through ∙ sym g.passed.same_nodes;
-    places = g.passed.at_places ∙ sym g.passed.same_places;
-    offset = sym g.passed.same_offset;
-    bottom = sym g.passed.same_bottom;
-    long = g.long;
-  },
-  g.rose ∙ ap (λ k. after_reads (length k) _) (sym (append-nil g.done) ∙ sym (ap (λ (x : Sought). x.fetched) g.search)),
-)
-going_end {level = suc l} g z below is = absurd (omega arith)
 
 -- the node that a descent has come to
 module _ {m₀ m : Meaning} {table : List Node} {key : List ℕ} {levels root l at : ℕ} {b : Option ℕ} {o : ℕ} {a : Option ℕ} {path : List Waypoint}
@@ -119,10 +85,16 @@ module _ {m₀ m : Meaning} {table : List Node} {key : List ℕ} {levels root l 
   pub at_packs : Packed (get_or table at no_node)
   at_packs = g.safe.packs at at_old
 
-  pub same_width : m.width ≡ m₀.width
-  same_width = ap (λ (z : Meaning). z.width) g.rose
+-- and once it was looked through: n is the node, x what the search among its entries tells, and m' the store then
+pub record Turned {m₀ m : Meaning} {table : List Node} {key : List ℕ} {levels root l at : ℕ} {b : Option ℕ} {o : ℕ} {a : Option ℕ} {path : List Waypoint}
+    (g : Going m₀ m table key levels root (suc l) at b o a path) (m' : Meaning) (n : Node) (x : Result Placement Missing) : Type 0 where
+  pub node : n ≡ get_or table at no_node
+  pub to : x ≡ (turn (bits key) (fetching m key) (held n) o).to
+  pub reads : m' ≡ after_reads (length (turn (bits key) (fetching m key) (held n) o).fetched) m
 
-  module _ (n : Node) (is : n ≡ get_or table at no_node) (x : Result Placement Missing) (to : x ≡ (turn (bits key) (fetching m key) (held n) o).to) where
+module _ {m₀ m m' : Meaning} {table : List Node} {key : List ℕ} {levels root l at : ℕ} {b : Option ℕ} {o : ℕ} {a : Option ℕ} {path : List Waypoint}
+    {g : Going m₀ m table key levels root (suc l) at b o a path} {n : Node} where
+  module _ {x : Result Placement Missing} (w : Turned g m' n x) where
     abbrev nd : Node
     nd = get_or table at no_node
 
@@ -130,77 +102,65 @@ module _ {m₀ m : Meaning} {table : List Node} {key : List ℕ} {levels root l 
     now_turn = turn (bits key) (fetching m₀ key) (held nd) o
 
     same_turn : turn (bits key) (fetching m key) (held n) o ≡ now_turn
-    same_turn = ap (λ (z : Meaning). turn (bits key) (fetching z key) (held n) o) g.rose ∙ ap (λ (z : Node). turn (bits key) (fetching m₀ key) (held z) o) is
+    same_turn = ap (λ (z : Meaning). turn (bits key) (fetching z key) (held n) o) g.rose ∙ ap (λ (z : Node). turn (bits key) (fetching m₀ key) (held z) o) w.node
 
     to_now : x ≡ now_turn.to
-    to_now = to ∙ ap (λ (z : Turn). z.to) same_turn
+    to_now = w.to ∙ ap (λ (z : Turn). z.to) same_turn
 
-    pub turn_in : InTurn (length (held n)) x
-    turn_in = subst (InTurn (length (held n))) (sym to) (turn_within (bits key) (fetching m key) (held n) o)
-
-    in_now : InTurn (length (held nd)) x
-    in_now = subst (λ (z : Node). InTurn (length (held z)) x) is turn_in
+    turn_in : InTurn (length (held n)) x
+    turn_in = subst (InTurn (length (held n))) (sym w.to) (turn_within (bits key) (fetching m key) (held n) o)
 
     whole : sought (bits key) (fetching m₀ key) levels (tree_of table levels root) ≡ joined (g.done ++ now_turn.fetched) (ended (seek (bits key) (fetching m₀ key) l) (bare l) (held nd) (map (tree_of table l) (links nd)) b a x)
     whole = g.search ∙ (ap (joined g.done) (seek-turn (bits key) (fetching m₀ key) l (tree_of table (suc l) at) b o a) ∙ (glue g.done now_turn.fetched (ended (seek (bits key) (fetching m₀ key) l) (bare l) (held nd) (map (tree_of table l) (links nd)) b a now_turn.to)
         ∙ ap (λ z. joined (g.done ++ now_turn.fetched) (ended (seek (bits key) (fetching m₀ key) l) (bare l) (held nd) (map (tree_of table l) (links nd)) b a z)) (sym to_now)))
 
-    left : course (bits key) (fetching m₀ key) (suc l) (tree_of table (suc l) at) o ≡ course_on (course (bits key) (fetching m₀ key) l) (bare l) l at o (map (tree_of table l) (links nd)) x
-    left = ap (course_on (course (bits key) (fetching m₀ key) l) (bare l) l at o (map (tree_of table l) (links nd))) (sym to_now)
-
     passed_on : Passed (course (bits key) (fetching m₀ key) levels (tree_of table levels root) 0) (course_on (course (bits key) (fetching m₀ key) l) (bare l) l at o (map (tree_of table l) (links nd)) x) levels (suc l) path
-    passed_on = subst (λ (z : Course). Passed (course (bits key) (fetching m₀ key) levels (tree_of table levels root) 0) z levels (suc l) path) left g.passed
+    passed_on =
+        let left = ap (course_on (course (bits key) (fetching m₀ key) l) (bare l) l at o (map (tree_of table l) (links nd))) (sym to_now) in
+        subst (λ (z : Course). Passed (course (bits key) (fetching m₀ key) levels (tree_of table levels root) 0) z levels (suc l) path) left g.passed
 
-    module _ (m' : Meaning) (reads : m' ≡ after_reads (length (turn (bits key) (fetching m key) (held n) o).fetched) m) where
-      rose_on : m' ≡ after_reads (length (g.done ++ now_turn.fetched)) m₀
-      rose_on = reads ∙ (ap (λ (z : Turn). after_reads (length z.fetched) m) same_turn ∙ (ap (after_reads (length now_turn.fetched)) g.rose ∙ (reads_more m₀ (length g.done) (length now_turn.fetched)
-          ∙ ap (λ k. after_reads k m₀) (sym (length-append g.done now_turn.fetched)))))
+    rose_on : m' ≡ after_reads (length (g.done ++ now_turn.fetched)) m₀
+    rose_on = w.reads ∙ (ap (λ (z : Turn). after_reads (length z.fetched) m) same_turn ∙ (ap (after_reads (length now_turn.fetched)) g.rose ∙ (more_reads m₀ (length g.done) (length now_turn.fetched)
+        ∙ ap (λ k. after_reads k m₀) (sym (length-append g.done now_turn.fetched)))))
 
-      -- where nothing more is fetched, the reads are those of the whole search
-      counted : (ended (seek (bits key) (fetching m₀ key) l) (bare l) (held nd) (map (tree_of table l) (links nd)) b a x).fetched ≡ [] → m' ≡ after_reads (length (sought (bits key) (fetching m₀ key) levels (tree_of table levels root)).fetched) m₀
-      counted none = rose_on ∙ ap (λ k. after_reads (length k) m₀) (sym (append-nil (g.done ++ now_turn.fetched)) ∙ (ap (λ k. (g.done ++ now_turn.fetched) ++ k) (sym none) ∙ sym (ap (λ (z : Sought). z.fetched) whole)))
+    -- where nothing more is fetched, the reads are those of the whole search
+    counted : (ended (seek (bits key) (fetching m₀ key) l) (bare l) (held nd) (map (tree_of table l) (links nd)) b a x).fetched ≡ [] → m' ≡ after_reads (length (sought (bits key) (fetching m₀ key) levels (tree_of table levels root)).fetched) m₀
+    counted none = rose_on ∙ ap (λ k. after_reads (length k) m₀) (sym (append-nil (g.done ++ now_turn.fetched)) ∙ (ap (λ k. (g.done ++ now_turn.fetched) ++ k) (sym none) ∙ sym (ap (λ (z : Sought). z.fetched) whole)))
 
-  abbrev Reads : (n : Node) → Meaning → Type 0
-  Reads n m' = m' ≡ after_reads (length (turn (bits key) (fetching m key) (held n) o).fetched) m
+  pub going_lost : {e : Missing} → Turned g m' n (Err e) →
+      Descends (bits key) (fetching m₀ key) levels (tree_of table levels root) (Err e) × (m' ≡ after_reads (length (sought (bits key) (fetching m₀ key) levels (tree_of table levels root)).fetched) m₀)
+  going_lost w = (ap (λ (z : Sought). z.end) (whole w), counted w refl)
 
-  abbrev Counted : Meaning → Type 0
-  Counted m' = m' ≡ after_reads (length (sought (bits key) (fetching m₀ key) levels (tree_of table levels root)).fetched) m₀
+  pub found_in : {c : ℕ} → Turned g m' n (Ok (Found c)) → c < length (held n)
+  found_in w = turn_in w
 
-  pub going_lost : (n : Node) → n ≡ get_or table at no_node → (e : Missing) → Err e ≡ (turn (bits key) (fetching m key) (held n) o).to → (m' : Meaning) → Reads n m' →
-      ((sought (bits key) (fetching m₀ key) levels (tree_of table levels root)).end ≡ gone e.number) × Counted m'
-  going_lost n is e to m' reads = (ap (λ (z : Sought). z.end) (whole n is (Err e) to), counted n is (Err e) to m' reads refl)
-
-  pub found_in : (n : Node) → n ≡ get_or table at no_node → (p : Placement) → Ok p ≡ (turn (bits key) (fetching m key) (held n) o).to → (c : ℕ) → p ≡ Found c → c < length (held n)
-  found_in n is p to c e = subst (InNode (length (held n))) e (turn_in n is (Ok p) to)
-
-  pub going_found : (n : Node) → n ≡ get_or table at no_node → (p : Placement) → Ok p ≡ (turn (bits key) (fetching m key) (held n) o).to → (c : ℕ) → p ≡ Found c → (m' : Meaning) → Reads n m' →
-      DescentOf (bits key) (fetching m₀ key) levels (tree_of table levels root) (record { ending = At (get_or (held n) c no_entry).number; bottom = l; path = set path l (record { node = at; place = c }); offset = o }) × Counted m'
-  going_found n is x got c same m' reads =
-      let to : Ok (Found c) ≡ (turn (bits key) (fetching m key) (held n) o).to = ap Ok (sym same) ∙ got in
-      let p = passed_on n is (Ok (Found c)) to in
-      let e : get_or (held (get_or table at no_node)) c no_entry ≡ get_or (held n) c no_entry = ap (λ (z : Node). get_or (held z) c no_entry) (sym is) in (
+  pub going_found : {c : ℕ} → Turned g m' n (Ok (Found c)) →
+      DescentOf (bits key) (fetching m₀ key) levels (tree_of table levels root) (record { ending = At (get_or (held n) c no_entry).number; bottom = l; path = set path l (record { node = at; place = c }); offset = o })
+      × (m' ≡ after_reads (length (sought (bits key) (fetching m₀ key) levels (tree_of table levels root)).fetched) m₀)
+  going_found {c} w =
+      let p = passed_on w in
+      let e : get_or (held (get_or table at no_node)) c no_entry ≡ get_or (held n) c no_entry = ap (λ (z : Node). get_or (held z) c no_entry) (sym w.node) in (
         record {
-          end = ap (λ (z : Sought). z.end) (whole n is (Ok (Found c)) to) ∙ ap (λ z. found z.number) e;
-          nodes = put (λ w. w.node) levels path l (record { node = at; place = c }) p.over p.through ∙ (sym (append_assoc (replicate l 0) (at ∷ []) p.over) ∙ sym p.same_nodes);
-          places = put (λ w. w.place) levels path l (record { node = at; place = c }) p.over_places p.at_places ∙ (sym (append_assoc (replicate l 0) (c ∷ []) p.over_places) ∙ sym p.same_places);
+          end = ap (λ (z : Sought). z.end) (whole w) ∙ ap (λ z. found z.number) e;
+          nodes = put (λ w. w.node) levels path l (record { node = at; place = c }) p.over g.upto p.through ∙ (sym (append_assoc (replicate l 0) (at ∷ []) p.over) ∙ sym p.same_nodes);
+          places = put (λ w. w.place) levels path l (record { node = at; place = c }) p.over_places g.upto p.at_places ∙ (sym (append_assoc (replicate l 0) (c ∷ []) p.over_places) ∙ sym p.same_places);
           offset = sym p.same_offset;
           bottom = sym p.same_bottom;
           long = length-set path l (record { node = at; place = c }) ∙ g.long;
         },
-        counted n is (Ok (Found c)) to m' reads refl,
+        counted w refl,
       )
 
-  pub place_in : (n : Node) → n ≡ get_or table at no_node → (p : Placement) → Ok p ≡ (turn (bits key) (fetching m key) (held n) o).to → (q d : ℕ) → p ≡ Place q d → q ≤ length (held n)
-  place_in n is p to q d e = subst (InNode (length (held n))) e (turn_in n is (Ok p) to)
+  pub place_in : {q d : ℕ} → Turned g m' n (Ok (Place q d)) → q ≤ length (held n)
+  place_in w = turn_in w
 
-  pub going_on : (n : Node) → n ≡ get_or table at no_node → (p : Placement) → Ok p ≡ (turn (bits key) (fetching m key) (held n) o).to → (q d : ℕ) → p ≡ Place q d → (m' : Meaning) → Reads n m' →
-      (x y : Option ℕ) → x ≡ under_at q b (held n) → y ≡ over_at q (held n) a → Going m₀ m' table key levels root l (get_or n.children q 0) x d y (set path l (record { node = at; place = q }))
-  going_on n is z got q d same m' reads x y ex ey =
-      let to : Ok (Place q d) ≡ (turn (bits key) (fetching m key) (held n) o).to = ap Ok (sym same) ∙ got in
+  pub going_on : {q d : ℕ} → Turned g m' n (Ok (Place q d)) → (x y : Option ℕ) → x ≡ under_at q b (held n) → y ≡ over_at q (held n) a →
+      Going m₀ m' table key levels root l (get_or n.children q 0) x d y (set path l (record { node = at; place = q }))
+  going_on {q} {d} w x y ex ey =
       let nd = get_or table at no_node in
       let child = get_or nd.children q 0 in
-      let p = passed_on n is (Ok (Place q d)) to in
-      let le : q ≤ length (held nd) = in_now n is (Ok (Place q d)) to in
+      let p = passed_on w in
+      let le : q ≤ length (held nd) = rw w.node at (place_in w) in
       let kid = get_or (map (tree_of table l) (links nd)) q (bare l) in
       let ki : kid ≡ tree_of table l child = kid_is table l 0 at g.safe.shape q le in
       let k = course (bits key) (fetching m₀ key) l kid d in
@@ -208,8 +168,8 @@ module _ {m₀ m : Meaning} {table : List Node} {key : List ℕ} {levels root l 
       let pass : Passed top k levels l (set path l (record { node = at; place = q })) = record {
         over = at ∷ p.over;
         over_places = q ∷ p.over_places;
-        through = put (λ w. w.node) levels path l (record { node = at; place = q }) p.over p.through;
-        at_places = put (λ w. w.place) levels path l (record { node = at; place = q }) p.over_places p.at_places;
+        through = put (λ w. w.node) levels path l (record { node = at; place = q }) p.over g.upto p.through;
+        at_places = put (λ w. w.place) levels path l (record { node = at; place = q }) p.over_places g.upto p.at_places;
         same_nodes = p.same_nodes ∙ append_assoc k.nodes (at ∷ []) p.over;
         same_places = p.same_places ∙ append_assoc k.places (q ∷ []) p.over_places;
         same_offset = p.same_offset;
@@ -218,13 +178,11 @@ module _ {m₀ m : Meaning} {table : List Node} {key : List ℕ} {levels root l 
       let r : Going m₀ m' table key levels root l child (under_at q b (held nd)) d (over_at q (held nd) a) (set path l (record { node = at; place = q })) = record {
         used = g.used;
         done = g.done ++ (turn (bits key) (fetching m₀ key) (held nd) o).fetched;
-        rose = rose_on n is (Ok (Place q d)) to m' reads;
-        search = whole n is (Ok (Place q d)) to ∙ ap (λ (z : Tree l). joined (g.done ++ (turn (bits key) (fetching m₀ key) (held nd) o).fetched) (seek (bits key) (fetching m₀ key) l z (under_at q b (held nd)) d (over_at q (held nd) a))) ki;
+        rose = rose_on w;
+        search = whole w ∙ ap (λ (z : Tree l). joined (g.done ++ (turn (bits key) (fetching m₀ key) (held nd) o).fetched) (seek (bits key) (fetching m₀ key) l z (under_at q b (held nd)) d (over_at q (held nd) a))) ki;
         passed = subst (λ (z : Tree l). Passed top (course (bits key) (fetching m₀ key) l z d) levels l (set path l (record { node = at; place = q }))) ki pass;
         safe = readable_kid g.safe q le;
         upto = omega (arith, g.upto);
         long = length-set path l (record { node = at; place = q }) ∙ g.long;
       } in
-      let rn = subst (λ (z : Node). Going m₀ m' table key levels root l (get_or z.children q 0) (under_at q b (held z)) d (over_at q (held z) a) (set path l (record { node = at; place = q }))) (sym is) r in
-      subst (λ (z : Option ℕ). Going m₀ m' table key levels root l (get_or n.children q 0) z d y (set path l (record { node = at; place = q }))) (sym ex)
-      (subst (λ (z : Option ℕ). Going m₀ m' table key levels root l (get_or n.children q 0) (under_at q b (held n)) d z (set path l (record { node = at; place = q }))) (sym ey) rn)
+      rw (ex, ey, w.node) r

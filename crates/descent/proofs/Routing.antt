@@ -9,6 +9,7 @@ use Rattle.descent.specs.Theorems.{CourseRoutes, CourseWithin}
 use Rattle.growth.specs.Routes.{Route, Within, base_at, ceiling_at}
 use Rattle.keys.specs.Digits.{Above, Below, Digits, floor}
 use Rattle.keys.specs.declared.comparison.Comparison.{Comparison}
+use Rattle.nodes.proofs.Weaves.{woven_kid}
 use Rattle.nodes.specs.Faith.{Ceiling, Faithful, Strung, Under, View, free}
 use Rattle.nodes.specs.Trees.{Tree, bare, no_entry, records}
 use Rattle.nodes.specs.declared.node.Entry.{Entry}
@@ -16,7 +17,7 @@ use Rattle.search.proofs.Comparing.{compared_true}
 use Rattle.search.proofs.Ladder.{ladder, ladder_key, strung_long, strung_node}
 use Rattle.search.proofs.NodeRight.{look_right}
 use Rattle.search.proofs.Plainly.{over_floor}
-use Rattle.search.proofs.Weaves.{woven_entry, woven_kid}
+use Rattle.search.proofs.Weaves.{woven_entry}
 use Rattle.search.specs.NodeLaw.{Tells}
 use Rattle.search.specs.Parts.{parts_of}
 use Rattle.search.specs.Seek.{gap, over_at, seek, under_at}

@@ -3,7 +3,7 @@ use Rattle.std.proofs.Common.{◌≡◌, ℕ, zero, suc, ◌<◌, ◌≤◌, Lis
 use Rattle.std.proofs.lemmas.Bool.{cases_lt}
 use Rattle.descent.proofs.Extending.{long, push_alike, push_top, zeros_top}
 use Rattle.descent.proofs.Routing.{turn_end}
-use Rattle.descent.proofs.Trailing.{kid_is, readable_kid, readable_old}
+use Rattle.descent.proofs.Trailing.{readable_kid, readable_old}
 use Rattle.descent.proofs.Turning.{InTurn, ended, turn_within}
 use Rattle.descent.specs.Course.{course, course_on, turn}
 use Rattle.descent.specs.Reading.{Readable, end_of}
@@ -12,6 +12,7 @@ use Rattle.descent.specs.declared.descent.Ending.{Ending}
 use Rattle.descent.specs.declared.descent.Ending.TheVariants.{Found as At, Gap}
 use Rattle.keys.specs.Digits.{Digits}
 use Rattle.keys.specs.declared.comparison.Comparison.{Comparison}
+use Rattle.nodes.proofs.Shapes.{kid_is}
 use Rattle.nodes.specs.Tables.{held, links, no_node, tree_of}
 use Rattle.nodes.specs.Trees.{Tree, bare}
 use Rattle.nodes.specs.declared.node.Node.{Node}

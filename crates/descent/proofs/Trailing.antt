@@ -1,20 +1,19 @@
 -- In a tree of a table the nodes of a course lead down by its places.
-use Rattle.std.proofs.Common.{◌≡◌, ℕ, zero, suc, ◌+◌, ◌<◌, ◌≤◌, true, List, [], ◌∷◌, ◌++◌, map, length, get_or, None, Ok, Err, Option, Result, sym, ap, ◌∙◌, subst, ⊎_elim, arith}
-use Rattle.std.proofs.lemmas.List.{get_or-map, get_or-take, length-map, length-take}
-use Rattle.std.proofs.lemmas.Bool.{cases_lt}
+use Rattle.std.proofs.Common.{◌≡◌, ℕ, zero, suc, ◌<◌, ◌≤◌, true, List, [], ◌∷◌, ◌++◌, map, length, get_or, None, Ok, Err, Option, Result, sym, ◌∙◌, subst, arith}
 use Rattle.descent.proofs.Extending.{long, push_alike, push_top, trail_alike}
 use Rattle.descent.proofs.Routing.{course_within, turn_end}
 use Rattle.descent.proofs.Turning.{InTurn, ended, turn_within}
 use Rattle.descent.specs.Course.{course, course_on, turn}
 use Rattle.descent.specs.Reading.{Readable}
 use Rattle.descent.specs.Theorems.{CourseTrails}
-use Rattle.growth.proofs.Linking.{here_self, one_of}
+use Rattle.growth.proofs.Joining.{along_trail}
+use Rattle.growth.proofs.Linking.{kid_reached, root_used}
 use Rattle.growth.proofs.Placing.{looser}
-use Rattle.growth.proofs.Shaping.{all_at, knot_parts}
-use Rattle.growth.specs.Routes.{Along, Trail, Within, way}
+use Rattle.growth.specs.Routes.{Trail}
 use Rattle.keys.specs.Digits.{Digits}
 use Rattle.keys.specs.declared.comparison.Comparison.{Comparison}
-use Rattle.nodes.specs.Tables.{held, links, no_node, reached, tree_of}
+use Rattle.nodes.proofs.Shapes.{kid_is, kid_shape}
+use Rattle.nodes.specs.Tables.{held, links, no_node, tree_of}
 use Rattle.nodes.specs.Trees.{Tree, bare, shaped}
 use Rattle.nodes.specs.declared.node.Node.{Node}
 use Rattle.search.specs.Seek.{gap, over_at, seek, under_at}
@@ -23,48 +22,17 @@ use Rattle.search.specs.declared.place.Placement.{Placement}
 use Rattle.search.specs.declared.place.Placement.TheVariants.{Found, Place}
 use Rattle.store.specs.declared.reading.Missing.{Missing}
 
--- the kid under a place of a node, in the table
-module _ (table : List Node) (l least at : ℕ) (h : shaped (suc l) least (tree_of table (suc l) at) ≡ true) where
-  abbrev n : Node
-  n = get_or table at no_node
-
-  pub links_long : length (links n) ≡ length (held n) + 1
-  links_long = sym (length-map (links n) (tree_of table l)) ∙ (knot_parts l least (tree_of table (suc l) at) h).many
-
-  module _ (q : ℕ) (le : q ≤ length (held n)) where
-    pub kid_is : get_or (map (tree_of table l) (links n)) q (bare l) ≡ tree_of table l (get_or n.children q 0)
-    kid_is = get_or-map (tree_of table l) (links n) q 0 (bare l) (omega (arith, links_long)) ∙ ap (tree_of table l) (get_or-take (n.count + 1) n.children q 0 (omega (arith, length-take n.count n.entries)))
-
-    pub in_kids : q < length (map (tree_of table l) (links n))
-    in_kids = omega (arith, links_long, length-map (links n) (tree_of table l))
-
-    pub kid_shape : shaped l 3 (tree_of table l (get_or n.children q 0)) ≡ true
-    kid_shape = subst (λ k. shaped l 3 k ≡ true) kid_is (all_at (shaped l 3) (map (tree_of table l) (links n)) q (bare l) in_kids (knot_parts l least (tree_of table (suc l) at) h).each)
-
 -- a tree that can be read, and the one under a place
 pub readable_old : {table : List Node} {used l at : ℕ} → Readable table used (suc l) at → at < used
-readable_old {table} {used} {l} {at} r = ⊎_elim (λ (h : at < used). h) (λ (h : used ≤ at). absurd (let z = r.known at h in let o = here_self at in omega arith)) (cases_lt at used)
+readable_old {table} {used} {l} {at} r = root_used table used l at r.known
 
 pub readable_kid : {table : List Node} {used l at : ℕ} → Readable table used (suc l) at → (q : ℕ) → q ≤ length (held (get_or table at no_node)) → Readable table used l (get_or (get_or table at no_node).children q 0)
 readable_kid {table} {used} {l} {at} r q le = record {
   shape = looser l 3 (tree_of table l (get_or (get_or table at no_node).children q 0)) (kid_shape table l 0 at r.shape q le);
-  known = λ p h.
-      let z = r.known p h in
-      let a = one_of (reached p l) (map (tree_of table l) (links (get_or table at no_node))) q (bare l) (in_kids table l 0 at r.shape q le) in
-      let b = ap (reached p l) (kid_is table l 0 at r.shape q le) in
-      omega arith;
+  known = λ p h. omega (arith, r.known p h, kid_reached table l 0 at r.shape q le p);
   fits = r.fits;
   packs = r.packs;
 }
-
-along_trail : (table : List Node) (path ps : List ℕ) (l least at : ℕ) → shaped l least (tree_of table l at) ≡ true → Within ps l (tree_of table l at) → Trail table path ps l at → Along (way table path) ps l (tree_of table l at)
-along_trail table path ps zero least at h w t = tt
-along_trail table path ps (suc l) least at h w t =
-    let q = get_or ps l 0 in
-    let e = kid_is table l least at h q w.0 in (
-      ap (λ p. held (get_or table p no_node)) t.0,
-      subst (Along (way table path) ps l) (sym e) (along_trail table path ps l 3 (get_or (get_or table at no_node).children q 0) (kid_shape table l least at h q w.0) (subst (Within ps l) e w.1) t.1),
-    )
 
 module _ (table : List Node) (s : Digits) (fetch : ℕ → Option Comparison) where
   abbrev Trails : ℕ → Type 0

@@ -77,6 +77,7 @@ fn look_through<S: ReadingStore>(
 }
 
 /// The search for a key, from the root down, with its path; or the record that it must fetch and the store lacks.
+// Kept: that the key is as wide as the store's keys is a fact of both, so no type of one of them says it.
 pub fn descend<S: ReadingStore>(
     table: &[Node],
     top: Top,
@@ -94,6 +95,7 @@ pub fn descend<S: ReadingStore>(
     let mut at = top.root;
     let (mut below, mut above) = (None, None);
     let mut descent = NOTHING_PASSED;
+    // Kept: `level` is the number of levels under a node before it is an index.
     for level in (0..top.levels).rev() {
         let n = node_at(table, at);
         let entries = &n.entries[..usize::from(n.count)];

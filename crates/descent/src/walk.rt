@@ -92,6 +92,7 @@ fn walk_after(table: &[Node], top: Top, place: u8, list: &mut [u16], so_far: Wal
 
 /// The first records from where a search ended, the one found or the one above the gap, in ascending order, as many as the list
 /// has places for.
+// Kept: the list is memory handed in, so how many it took is told beside it.
 pub fn walk(table: &[Node], top: Top, descent: &Descent, list: &mut [u16]) -> Walked
     requires deep { top.levels ≤ 7 }
     requires readable { Readable table.now top.used top.levels top.root }

@@ -2,8 +2,8 @@
 use Rattle.std.proofs.Common.{◌≡◌, ℕ, zero, suc, ◌+◌, ◌*◌, ◌^◌, ◌≤◌, Bool, true, List, [], ◌∷◌, map, length, ◌∙◌, mul-le-mul_right, arith}
 use Rattle.std.proofs.lemmas.List.{length-append, length-map}
 use Rattle.std.proofs.lemmas.Bool.{and_parts}
-use Rattle.growth.proofs.Shaping.{knot_parts}
 use Rattle.growth.specs.Theorems.{LevelsBound}
+use Rattle.nodes.proofs.Shapes.{knot_parts}
 use Rattle.nodes.specs.Trees.{Tree, all, records, shaped, total, weave}
 use Rattle.nodes.specs.declared.node.Entry.{Entry}
 

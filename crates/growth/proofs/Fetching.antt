@@ -1,27 +1,21 @@
 -- The records fetched as a tree grows: all of them of the tree.
-use Rattle.std.proofs.Common.{◌≡◌, ℕ, zero, suc, ◌+◌, ◌*◌, ◌<◌, ◌≤◌, Bool, true, false, cond, eqb, ltb, ◌⊎◌, List, [], ◌∷◌, ◌++◌, map, length, get_or, set, sym, refl, subst, inl, inr, ⊎_elim, arith}
+use Rattle.std.proofs.Common.{◌≡◌, ℕ, zero, suc, ◌*◌, ◌<◌, ◌≤◌, Bool, true, false, cond, eqb, ltb, ◌⊎◌, List, [], ◌∷◌, ◌++◌, map, length, get_or, set, sym, refl, subst, inl, inr, ⊎_elim, arith}
 use Rattle.std.specs.List.{ContainsAt as Has, insert, AllByRecursion}
-use Rattle.std.proofs.ByRecursion.{All-append, All-from_get_or, All-get_or, All-weaker}
-use Rattle.std.proofs.lemmas.List.{get_or_default, get_or-map, length-map}
+use Rattle.std.proofs.ByRecursion.{All-append, All-get_or, All-weaker, all_has_itself}
+use Rattle.std.proofs.lemmas.List.{get_or-map, length-map}
 use Rattle.std.proofs.lemmas.Bool.{eqb-false, ltb-false}
 use Rattle.growth.proofs.Faithfulness.{put_long}
 use Rattle.growth.proofs.Ordering.{entry_adds, follow-number, grow_adds, out_order}
-use Rattle.growth.proofs.Shaping.{all_at, grow_reads, grow-row, grow_shapes, knot_parts, topped_reads, topped_shape, topped_taken}
+use Rattle.growth.proofs.Shaping.{grow_reads, grow-row, grow_shapes, topped_reads, topped_shape, topped_taken}
 use Rattle.growth.specs.Growth.{Up, asked, grow, join, parted, put, rise, row, stay}
 use Rattle.growth.specs.Orders.{Added, first, later}
 use Rattle.growth.specs.Routes.{Within}
 use Rattle.growth.specs.Theorems.{EntryLawful}
+use Rattle.nodes.proofs.Shapes.{kid_shaped, knot_parts}
+use Rattle.nodes.proofs.Weaves.{all_back, woven_kid}
 use Rattle.nodes.specs.Faith.{View}
 use Rattle.nodes.specs.Trees.{Knot, Tree, bare, no_entry, records, shaped, weave}
 use Rattle.nodes.specs.declared.node.Entry.{Entry}
-
-pub all_back : (P : ℕ → Type 0) (xs ys : List ℕ) → AllByRecursion P (xs ++ ys) → AllByRecursion P ys
-all_back P [] ys a = a
-all_back P (x ∷ xs) ys a = all_back P xs ys a.1
-
-pub all_front : (P : ℕ → Type 0) (xs ys : List ℕ) → AllByRecursion P (xs ++ ys) → AllByRecursion P xs
-all_front P [] ys a = tt
-all_front P (x ∷ xs) ys a = (a.0, all_front P xs ys a.1)
 
 pub all_added : (P : ℕ → Type 0) (x : ℕ) (xs ys : List ℕ) → Added x xs ys → P x → AllByRecursion P xs → AllByRecursion P ys
 all_added P x us ws first p a = (p, a)
@@ -34,13 +28,6 @@ weave_numbers : (P : ℕ → Type 0) (es : List Entry) (fs : List (List ℕ)) �
 weave_numbers P [] fs a = tt
 weave_numbers P (e ∷ es) [] a = (a.0, weave_numbers P es [] a.1)
 weave_numbers P (e ∷ es) (f ∷ fs) a = let b = all_back P f (e.number ∷ weave es fs) a in (b.0, weave_numbers P es fs b.1)
-
-weave_kid : (P : ℕ → Type 0) (es : List Entry) (fs : List (List ℕ)) (i : ℕ) → i < length fs → length fs ≡ length es + 1 → AllByRecursion P (weave es fs) → AllByRecursion P (get_or fs i [])
-weave_kid P es [] i lt long a = absurd (omega arith)
-weave_kid P [] (f ∷ fs) zero lt long a = a
-weave_kid P [] (f ∷ fs) (suc i) lt long a = absurd (omega arith)
-weave_kid P (e ∷ es) (f ∷ fs) zero lt long a = all_front P f (e.number ∷ weave es fs) a
-weave_kid P (e ∷ es) (f ∷ fs) (suc i) lt long a = weave_kid P es fs i (omega arith) (omega arith) (all_back P f (e.number ∷ weave es fs) a).1
 
 put_numbers : (P : ℕ → Type 0) (v : View) (r o i : ℕ) (es : List Entry) → P r → Numbers P es → Numbers P (put v r o i es)
 put_numbers P v r o zero [] p a = (p, tt)
@@ -93,14 +80,11 @@ module _ (P : ℕ → Type 0) (x : ℕ) where
       let fs = map (records l) t.kids in
       let lm = length-map t.kids (records l) in
       let lt : i < length t.kids = omega (arith, q.many, w.0) in
-      let sh = all_at (shaped l 3) t.kids i (bare l) lt q.each in
-      let ka : AllByRecursion P (records l kid) = subst (AllByRecursion P) (get_or-map (records l) t.kids i (bare l) [] lt) (weave_kid P t.entries fs i (omega arith) (omega (arith, q.many)) a) in
+      let sh = kid_shaped q i w.0 in
+      let ka : AllByRecursion P (records l kid) = subst (AllByRecursion P) (get_or-map (records l) t.kids i (bare l) [] lt) (woven_kid P i t.entries fs (omega (arith, q.many)) w.0 a) in
       join_known v l t i g.left g.up g.used g.fetched (weave_numbers P t.entries fs a)
       (all_added OrNew x (records l kid) (out_order l g.left g.up) (grow_adds v used x o ps l 3 kid sh w.1) (inr refl) (All-weaker P OrNew (λ r p. inl p) (records l kid) ka))
       (grow_known v used o ps l 3 kid sh w.1 ka)
-
-all_itself : (xs : List ℕ) → AllByRecursion (Has xs) xs
-all_itself xs = All-from_get_or (Has xs) xs 0 (λ i lt. (i, lt, λ d. get_or_default xs i d 0 lt))
 
 pub entry_lawful : EntryLawful
 entry_lawful v used x o ps l t h w =
@@ -112,5 +96,5 @@ entry_lawful v used x o ps l t h w =
       adds = entry_adds v used x o ps l t h w;
       taken = topped_taken v l g.left g.up g.used g.fetched used (row ps l t) r.0 r.1;
       reads = subst (λ (zs : List ℕ). length zs ≤ 2 * l) (sym fe) (grow_reads v used x o ps l t);
-      known = subst (AllByRecursion (Has (records l t))) (sym fe) (grow_known (Has (records l t)) x v used o ps l 1 t h w (all_itself (records l t)));
+      known = subst (AllByRecursion (Has (records l t))) (sym fe) (grow_known (Has (records l t)) x v used o ps l 1 t h w (all_has_itself (records l t)));
     }

@@ -1,27 +1,30 @@
 -- A plan written into a faithful tree.
 use Rattle.std.proofs.Common.{◌≡◌, ℕ, zero, suc, true, List, get_or, Some, None, Option, sym, refl, ap, ◌∙◌, subst, arith}
 use Rattle.growth.proofs.Faithfulness.{Out, grow_out}
-use Rattle.growth.proofs.Placing.{kid_is, linked_none, linked_some, ready_below}
+use Rattle.growth.proofs.Placing.{linked_none, linked_some}
 use Rattle.growth.proofs.Tracing.{plan_builds, plan_traces}
-use Rattle.growth.specs.Commits.{After, Entered, Ready}
+use Rattle.growth.specs.Commits.{After, Entered}
 use Rattle.growth.specs.Growth.{Up, grow, rise, stay}
 use Rattle.growth.specs.Plans.{Comes, Planned, Traced, carry, lifts, trace}
-use Rattle.growth.specs.Routes.{Along, Trail, way}
+use Rattle.growth.specs.Routes.{Along, Trail, Within, way}
 use Rattle.growth.specs.Theorems.{TableFaithful}
 use Rattle.growth.specs.Writes.{Same, build, none, right_of, some}
 use Rattle.keys.specs.Digits.{Digits}
+use Rattle.nodes.proofs.Shapes.{kid_is, kid_shape}
 use Rattle.nodes.specs.Faith.{Ceiling, Faithful, View, made, under}
 use Rattle.nodes.specs.Tables.{held, no_node, tree_of}
-use Rattle.nodes.specs.Trees.{Tree}
+use Rattle.nodes.specs.Trees.{Tree, shaped}
 use Rattle.nodes.specs.declared.node.Entry.{Entry}
 use Rattle.nodes.specs.declared.node.Node.{Node}
 
-pub along_trail : (t : List Node) (used : ℕ) (path ps : List ℕ) (l at : ℕ) → Ready t used ps l at → Trail t path ps l at → Along (way t path) ps l (tree_of t l at)
-along_trail t used path ps zero at rdy tr = tt
-along_trail t used path ps (suc l) at rdy tr = (
-  ap (λ (p : ℕ). held (get_or t p no_node)) tr.0,
-  subst (Along (way t path) ps l) (sym (kid_is t used l at ps rdy)) (along_trail t used path ps l (get_or (get_or t at no_node).children (get_or ps l 0) 0) (ready_below t used l at ps rdy) tr.1),
-)
+pub along_trail : (table : List Node) (path ps : List ℕ) (l least at : ℕ) → shaped l least (tree_of table l at) ≡ true → Within ps l (tree_of table l at) → Trail table path ps l at → Along (way table path) ps l (tree_of table l at)
+along_trail table path ps zero least at h w t = tt
+along_trail table path ps (suc l) least at h w t =
+    let q = get_or ps l 0 in
+    let e = kid_is table l least at h q w.0 in (
+      ap (λ p. held (get_or table p no_node)) t.0,
+      subst (Along (way table path) ps l) (sym e) (along_trail table path ps l 3 (get_or (get_or table at no_node).children q 0) (kid_shape table l least at h q w.0) (subst (Within ps l) e w.1) t.1),
+    )
 
 record Rose (l : ℕ) (up : Up (Tree l)) (y : Tree l) : Type 0 where
   pub r : ℕ
@@ -62,7 +65,7 @@ after v t t1 used used1 x o ents nexts path ps l at (Some y) b c tr sm pl ent ou
 
 pub table_faithful : TableFaithful
 table_faithful v t t1 used used1 x o ents nexts path ps l at right b c bd rdy tr pl ent f w =
-    let al = along_trail t used path ps l at rdy tr in
+    let al = along_trail t path ps l 0 at rdy.shape rdy.within tr in
     let tc = plan_traces v used x o (way t path) ps l (tree_of t l at) al in
     let sm = plan_builds v used x o (way t path) ps ents nexts l (tree_of t l at) al pl rdy.within in
     (after v t t1 used used1 x o ents nexts path ps l at right b c tc sm pl ent (grow_out v bd used x o ps l b c (tree_of t l at) f w), tc.fetches)

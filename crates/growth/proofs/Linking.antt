@@ -1,13 +1,14 @@
 -- How often each node is reached in what a plan builds.
-use Rattle.std.proofs.Common.{◌≡◌, ℕ, zero, suc, ◌+◌, ◌<◌, ◌≤◌, Bool, true, false, cond, ◌&&◌, ltb, leb, List, [], ◌∷◌, map, length, get_or, take, drop, set, sym, refl, ap, ◌∙◌, arith}
+use Rattle.std.proofs.Common.{◌≡◌, ℕ, zero, suc, ◌+◌, ◌<◌, ◌≤◌, Bool, true, false, cond, ◌&&◌, ltb, leb, List, [], ◌∷◌, map, length, get_or, take, drop, set, sym, refl, ap, ◌∙◌, ⊎_elim, arith}
 use Rattle.std.specs.List.{insert}
 use Rattle.std.proofs.lemmas.List.{get_or-map, length-map}
+use Rattle.std.proofs.lemmas.Bool.{cases_lt}
 use Rattle.std.proofs.lemmas.Bool.Decides.{nat_tests}
-use Rattle.growth.proofs.Shaping.{all_at, knot_parts}
 use Rattle.growth.specs.Commits.{between}
 use Rattle.growth.specs.Growth.{Row, row}
 use Rattle.growth.specs.Routes.{Within}
 use Rattle.growth.specs.Writes.{Right, build, cut, fit, none, some}
+use Rattle.nodes.proofs.Shapes.{in_kids, kid_is, kid_shaped, knot_parts}
 use Rattle.nodes.specs.Tables.{held, here, links, no_node, reached, tree_of}
 use Rattle.nodes.specs.Trees.{Knot, Tree, bare, no_entry, shaped, total}
 use Rattle.nodes.specs.declared.node.Entry.{Entry}
@@ -28,6 +29,10 @@ map_agree f g (c ∷ cs) same =
 
 pub here_self : (p : ℕ) → here p p ≡ 1
 here_self p = grind (arith, nat_tests)
+
+-- where no node past those in use is reached, the root of a tree is in use
+pub root_used : (t : List Node) (used l at : ℕ) → ((p : ℕ) → used ≤ p → reached p (suc l) (tree_of t (suc l) at) ≡ 0) → at < used
+root_used t used l at known = ⊎_elim (λ (h : at < used). h) (λ (h : used ≤ at). absurd (let z = known at h in let o = here_self at in omega arith)) (cases_lt at used)
 
 pub agree : (t u : List Node) (l at : ℕ) → ((p : ℕ) → 0 < reached p l (tree_of t l at) → get_or u p no_node ≡ get_or t p no_node) → tree_of u l at ≡ tree_of t l at
 agree t u zero at same = refl
@@ -69,6 +74,14 @@ module _ {X : Type 0} (m : X → ℕ) where
   two_of (x ∷ xs) zero (suc k) d li lk ne = omega (arith, one_of xs k d (omega arith))
   two_of (x ∷ xs) (suc i) zero d li lk ne = omega (arith, one_of xs i d (omega arith))
   two_of (x ∷ xs) (suc i) (suc k) d li lk ne = omega (arith, two_of xs i k d (omega arith) (omega arith) (λ e. ne (ap suc e)))
+
+-- what is reached in a kid is reached in one of the kids
+pub kid_reached : (t : List Node) (l least at : ℕ) (h : shaped (suc l) least (tree_of t (suc l) at) ≡ true) (q : ℕ) → q ≤ length (held (get_or t at no_node)) → (p : ℕ)
+    → reached p l (tree_of t l (get_or (get_or t at no_node).children q 0)) ≤ total (map (reached p l) (map (tree_of t l) (links (get_or t at no_node))))
+kid_reached t l least at h q le p =
+    let a = one_of (reached p l) (map (tree_of t l) (links (get_or t at no_node))) q (bare l) (in_kids t l least at h q le) in
+    let b = ap (reached p l) (kid_is t l least at h q le) in
+    omega arith
 
 abbrev pub reached_up : ℕ → (l : ℕ) → Right (Tree l) → ℕ
 reached_up p l none = 0
@@ -124,7 +137,7 @@ build-reached p used ents nexts ps (suc l) low t h w =
     let kid = get_or t.kids i (bare l) in
     let g = build used ents nexts ps l kid in
     fit-reached p l (get_or ents l no_entry) (get_or nexts l no_entry) t i g.left g.right used g.used lt (build_used used ents nexts ps l kid)
-    (build-reached p used ents nexts ps l 3 kid (all_at (shaped l 3) t.kids i (bare l) lt q.each) w.1)
+    (build-reached p used ents nexts ps l 3 kid (kid_shaped q i w.0) w.1)
 
 abbrev pub lifted_up : {T : Type 0} → Right T → Bool
 lifted_up none = false

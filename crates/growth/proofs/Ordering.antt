@@ -7,13 +7,13 @@ use Rattle.std.proofs.lemmas.Bool.{cases_lt, ltb-false}
 use Rattle.std.proofs.lemmas.Bool.Decides.{nat_tests}
 use Rattle.growth.proofs.Faithfulness.{entry_faithful, put_long}
 use Rattle.growth.proofs.Following.{gap_at, gap_back}
-use Rattle.growth.proofs.Shaping.{all_at, knot_parts}
 use Rattle.growth.specs.Growth.{Up, asked, entered, follow, grow, join, parted, put, rise, stay, topped}
 use Rattle.growth.specs.Orders.{Added, Rising, first, later, placed, smaller}
 use Rattle.growth.specs.Routes.{Bounded, Route, Within, base_at, ceiling_at}
 use Rattle.growth.specs.Theorems.{EntryPlaced}
 use Rattle.keys.proofs.Offsets.{below_trans}
 use Rattle.keys.specs.Digits.{Below, Digits, first_gap_of}
+use Rattle.nodes.proofs.Shapes.{kid_shaped, knot_parts}
 use Rattle.nodes.specs.Faith.{Ceiling, Faithful, Strung, View, free, made, under}
 use Rattle.nodes.specs.Trees.{Knot, Tree, bare, no_entry, records, shaped, weave}
 use Rattle.nodes.specs.declared.node.Entry.{Entry}
@@ -100,7 +100,7 @@ grow_adds v used x o ps (suc l) low t h w =
     let lm = length-map t.kids (records l) in
     let lt : i < length t.kids = omega (arith, q.many, w.0) in
     let kf : get_or fs i [] ≡ records l kid = get_or-map (records l) t.kids i (bare l) [] lt in
-    let ih = grow_adds v used x o ps l 3 kid (all_at (shaped l 3) t.kids i (bare l) lt q.each) w.1 in
+    let ih = grow_adds v used x o ps l 3 kid (kid_shaped q i w.0) w.1 in
     let j = join_order v x l t i g.left g.up g.used g.fetched q.many w.0 in
     let ih2 : Added x (get_or fs i []) (out_order l g.left g.up) = subst (λ (zs : List ℕ). Added x zs (out_order l g.left g.up)) (sym kf) ih in
     subst (λ (zs : List ℕ). Added x (records (suc l) t) zs) (sym j) (added_weave x i t.entries fs (out_order l g.left g.up) (omega arith) (omega (arith, q.many)) ih2)

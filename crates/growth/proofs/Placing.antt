@@ -1,18 +1,19 @@
 -- One level of a plan written into a table.
-use Rattle.std.proofs.Common.{◌≡◌, ℕ, zero, suc, ◌+◌, ◌-◌, ◌<◌, ◌≤◌, Bool, true, false, ltb, ◌≢◌, List, [], ◌∷◌, map, length, get_or, take, drop, set, replicate, Some, None, Option, sym, refl, ap, ◌∙◌, subst, ⊎_elim, add-one, arith}
+use Rattle.std.proofs.Common.{◌≡◌, ℕ, zero, suc, ◌+◌, ◌-◌, ◌<◌, ◌≤◌, Bool, true, false, ltb, ◌≢◌, List, map, length, get_or, take, drop, set, replicate, Some, None, Option, sym, refl, ap, ◌∙◌, subst, ⊎_elim, add-one, arith}
 use Rattle.std.specs.List.{insert}
 use Rattle.std.proofs.lemmas.List.Edits.{length-insert}
-use Rattle.std.proofs.lemmas.List.{drop-map, ext_get_or, get_or-map, get_or-set_other, get_or-set_same, get_or-take, length-drop, length-map, length-set, length-take-le, take_at, take-map}
+use Rattle.std.proofs.lemmas.List.{drop-map, ext_get_or, get_or-map, get_or-set_other, get_or-set_same, length-drop, length-map, length-set, length-take-le, take_at, take-map}
 use Rattle.std.proofs.lemmas.Bool.{cases_eq, cases_lt}
 use Rattle.std.proofs.lemmas.Bool.Decides.{nat_tests}
 use Rattle.growth.proofs.Framing.{frame, map_same}
-use Rattle.growth.proofs.Linking.{agree, build-reached, build-row, build_used, here_self, one_of, reached_up, row_grows, total_inserted, total-set, two_of}
+use Rattle.growth.proofs.Linking.{agree, build-reached, build-row, build_used, here_self, kid_reached, reached_up, root_used, row_grows, total_inserted, total-set, two_of}
 use Rattle.growth.proofs.Ordering.{map_inserted}
-use Rattle.growth.proofs.Shaping.{all_at, knot_parts, knot_shaped}
+use Rattle.growth.proofs.Shaping.{knot_shaped}
 use Rattle.growth.specs.Commits.{Entered, Linked, Ready, between}
 use Rattle.growth.specs.Growth.{row}
 use Rattle.growth.specs.Routes.{Within}
 use Rattle.growth.specs.Writes.{Built, Right, build, cut, fit, none, some}
+use Rattle.nodes.proofs.Shapes.{child_is, in_kids, kid_is, kid_shape, knot_parts, links_long}
 use Rattle.nodes.specs.Tables.{Packed, held, links, no_node, packed, reached, tree_of}
 use Rattle.nodes.specs.Trees.{Knot, Tree, bare, no_entry, shaped, total}
 use Rattle.nodes.specs.declared.node.Entry.{Entry}
@@ -59,16 +60,16 @@ module _ (t : List Node) (used l at : ℕ) (ps : List ℕ) (rdy : Ready t used p
   kids = map (tree_of t l) (links n)
 
   pub many : length (links n) ≡ length (held n) + 1
-  many = sym (length-map (links n) (tree_of t l)) ∙ (knot_parts l 0 (tree_of t (suc l) at) rdy.shape).many
+  many = links_long t l 0 at rdy.shape
 
   pub inside : i < length (links n)
   inside = omega (arith, many, rdy.within.0)
 
   pub inside_kids : i < length kids
-  inside_kids = omega (arith, inside, length-map (links n) (tree_of t l))
+  inside_kids = in_kids t l 0 at rdy.shape i rdy.within.0
 
   pub old : at < used
-  old = ⊎_elim (λ (h : at < used). h) (λ (h : used ≤ at). absurd (let z = rdy.known at h in let o = here_self at in omega arith)) (cases_lt at used)
+  old = root_used t used l at rdy.known
 
   pub packs : Packed n
   packs = rdy.packs at old
@@ -76,21 +77,18 @@ module _ (t : List Node) (used l at : ℕ) (ps : List ℕ) (rdy : Ready t used p
   pub counted : n.count ≡ length (held n)
   counted = ap (λ (m : Node). m.count) packs.1
 
-  pub child_is : get_or (links n) i 0 ≡ child
-  child_is = get_or-take (n.count + 1) n.children i 0 (omega (arith, counted, rdy.within.0))
-
-  pub kid_is : get_or kids i (bare l) ≡ tree_of t l child
-  kid_is = get_or-map (tree_of t l) (links n) i 0 (bare l) inside ∙ ap (tree_of t l) child_is
+  pub kid_there : get_or kids i (bare l) ≡ tree_of t l child
+  kid_there = kid_is t l 0 at rdy.shape i rdy.within.0
 
   pub sub_reached : (p : ℕ) → reached p l (tree_of t l child) ≤ total (map (reached p l) kids)
-  sub_reached p = let a = one_of (reached p l) kids i (bare l) inside_kids in let b = ap (reached p l) kid_is in omega arith
+  sub_reached p = kid_reached t l 0 at rdy.shape i rdy.within.0 p
 
   pub ready_below : Ready t used ps l child
   ready_below = record {
-    shape = looser l 3 (tree_of t l child) (subst (λ k. shaped l 3 k ≡ true) kid_is (all_at (shaped l 3) kids i (bare l) inside_kids (knot_parts l 0 (tree_of t (suc l) at) rdy.shape).each));
+    shape = looser l 3 (tree_of t l child) (kid_shape t l 0 at rdy.shape i rdy.within.0);
     once = λ p. omega (arith, sub_reached p, rdy.once p);
     known = λ p h. omega (arith, sub_reached p, rdy.known p h);
-    within = subst (Within ps l) kid_is rdy.within.1;
+    within = subst (Within ps l) kid_there rdy.within.1;
     fits = rdy.fits;
     few = rdy.few;
     packs = rdy.packs;
@@ -107,14 +105,14 @@ module _ (t : List Node) (used l at : ℕ) (ps : List ℕ) (rdy : Ready t used p
     T = tree_of t (suc l) at
 
     pub grown : build used ents nexts ps (suc l) T ≡ fit (get_or ents l no_entry) (get_or nexts l no_entry) T i g.left g.right g.used
-    grown = ap (λ (k : Tree l). fit (get_or ents l no_entry) (get_or nexts l no_entry) T i (build used ents nexts ps l k).left (build used ents nexts ps l k).right (build used ents nexts ps l k).used) kid_is
+    grown = ap (λ (k : Tree l). fit (get_or ents l no_entry) (get_or nexts l no_entry) T i (build used ents nexts ps l k).left (build used ents nexts ps l k).right (build used ents nexts ps l k).used) kid_there
 
     pub others : (k : ℕ) → k < length (links n) → (k ≡ i → ⊥) → tree_of t1 l (get_or (links n) k 0) ≡ tree_of t l (get_or (links n) k 0)
     others k lt ne =
         let len = length-map (links n) (tree_of t l) in
         agree t t1 l (get_or (links n) k 0) (λ p pos.
         let a = two_of (reached p l) kids i k (bare l) inside_kids (omega arith) ne in
-        let b = ap (reached p l) kid_is in
+        let b = ap (reached p l) kid_there in
         let c = ap (reached p l) (get_or-map (tree_of t l) (links n) k 0 (bare l) lt) in
         let o = rdy.once p in
         let lp : p < used = ⊎_elim (λ (h : p < used). h) (λ (h : used ≤ p). absurd (let z = rdy.known p h in omega arith)) (cases_lt p used) in
@@ -132,7 +130,7 @@ module _ (t : List Node) (used l at : ℕ) (ps : List ℕ) (rdy : Ready t used p
         (λ (h : k ≡ i).
         let s = get_or-set_same kids i g.left (bare l) inside_kids in
         let f = ent.left in
-        let ci = child_is in
+        let ci = child_is t l 0 at rdy.shape i rdy.within.0 in
         cc)
         (λ (h : k ≡ i → ⊥).
         let s = get_or-set_other kids i k g.left (bare l) h in
@@ -210,7 +208,7 @@ module _ (t : List Node) (used l at : ℕ) (ps : List ℕ) (rdy : Ready t used p
         let d = build-reached q used ents nexts ps l 0 (tree_of t l child) ready_below.shape ready_below.within in
         let f : reached_up q l h.right ≡ reached q l R = ap (reached_up q l) rose in
         let s = sub_reached q in
-        let k = ap (reached q l) kid_is in
+        let k = ap (reached q l) kid_there in
         omega arith
 
     pub taken_old : between at used h.used ≡ 0
@@ -310,112 +308,105 @@ module _ (t : List Node) (used l at : ℕ) (ps : List ℕ) (rdy : Ready t used p
         } in
         subst (λ (x : ℕ). Entered t (set (set t1 at N) x M) used ents nexts ps (suc l) at (Some x) (x + 1)) (sym ent.taken) res
 
--- The same as the code counts levels: nd is the node at `at`, in a tree of one level or more.
-pub record Step (t : List Node) (used : ℕ) (ps : List ℕ) (nd : Node) (level at : ℕ) : Type 0 where
-  pub is : nd ≡ get_or t at no_node
+-- The same as the code counts levels: nd is the node at `at`, in a tree of one level or more, and i, e and n are its place, entry
+-- and following entry.
+pub record Step (t : List Node) (used : ℕ) (ents nexts : List Entry) (ps : List ℕ) (level at : ℕ) (nd : Node) (i : ℕ) (e n : Entry) : Type 0 where
   pub ready : Ready t used ps level at
+  pub room : used + (row ps level (tree_of t level at)).nodes ≤ length t
   pub one_up : level ≡ suc (level - 1)
+  pub node : nd ≡ get_or t at no_node
+  pub place : i ≡ get_or ps (level - 1) 0
+  pub entry : e ≡ get_or ents (level - 1) no_entry
+  pub next : n ≡ get_or nexts (level - 1) no_entry
 
-pub step : {t : List Node} {used : ℕ} {ps : List ℕ} {nd : Node} {level at : ℕ} → nd ≡ get_or t at no_node → Ready t used ps level at → 0 < level → Step t used ps nd level at
-step is ready pos = record { is = is; ready = ready; one_up = omega arith }
+-- the root of a tree of one level or more
+pub root_known : {t : List Node} {used : ℕ} {ps : List ℕ} {level at : ℕ} → Ready t used ps level at → 0 < level → (at < length t) × Packed (get_or t at no_node)
+root_known {t} {used} {ps} {level} {at} ready pos =
+    let one_up : level ≡ suc (level - 1) = omega arith in
+    let o = old t used (level - 1) at ps (subst (λ (m : ℕ). Ready t used ps m at) one_up ready) in
+    (omega (arith, ready.fits), ready.packs at o)
 
-module _ {t : List Node} {used : ℕ} {ps : List ℕ} {nd : Node} {level at : ℕ} (s : Step t used ps nd level at) where
-  abbrev J : ℕ
-  J = get_or ps (level - 1) 0
-
+module _ {t : List Node} {used : ℕ} {ents nexts : List Entry} {ps : List ℕ} {level at : ℕ} {nd : Node} {i : ℕ} {e n : Entry} (s : Step t used ents nexts ps level at nd i e n) where
   rdy : Ready t used ps (suc (level - 1)) at
   rdy = subst (λ (m : ℕ). Ready t used ps m at) s.one_up s.ready
 
-  child_eq : child t used (level - 1) at ps rdy ≡ get_or nd.children J 0
-  child_eq = ap (λ (x : Node). get_or x.children J 0) (sym s.is)
+  child_eq : child t used (level - 1) at ps rdy ≡ get_or nd.children i 0
+  child_eq = rw (s.place, s.node) refl
 
-  room_up : used + (row ps level (tree_of t level at)).nodes ≤ length t → used + (row ps (suc (level - 1)) (tree_of t (suc (level - 1)) at)).nodes ≤ length t
-  room_up room = subst (λ (m : ℕ). used + (row ps m (tree_of t m at)).nodes ≤ length t) s.one_up room
+  room_up : used + (row ps (suc (level - 1)) (tree_of t (suc (level - 1)) at)).nodes ≤ length t
+  room_up = subst (λ (m : ℕ). used + (row ps m (tree_of t m at)).nodes ≤ length t) s.one_up s.room
 
-  pub at_old : at < used
-  at_old = old t used (level - 1) at ps rdy
+  all_held : nd.count ≡ length (held (get_or t at no_node))
+  all_held = rw s.node (counted t used (level - 1) at ps rdy)
 
-  pub at_in : at < length t
-  at_in = omega (arith, at_old, s.ready.fits)
+  pub at_place : i ≤ nd.count
+  at_place = omega (arith, s.place, all_held, rdy.within.0)
 
-  pub at_packs : Packed (get_or t at no_node)
-  at_packs = s.ready.packs at at_old
-
-  pub at_place : J ≤ length (held nd)
-  at_place = rw s.is rdy.within.0
-
-  pub at_ready : Ready t used ps (level - 1) (get_or nd.children J 0)
+  pub at_ready : Ready t used ps (level - 1) (get_or nd.children i 0)
   at_ready = subst (λ (c : ℕ). Ready t used ps (level - 1) c) child_eq (ready_below t used (level - 1) at ps rdy)
 
-  pub at_room : used + (row ps level (tree_of t level at)).nodes ≤ length t → used + (row ps (level - 1) (tree_of t (level - 1) (get_or nd.children J 0))).nodes ≤ length t
-  at_room room =
-      let r = room_up room in
+  pub at_room : used + (row ps (level - 1) (tree_of t (level - 1) (get_or nd.children i 0))).nodes ≤ length t
+  at_room =
+      let r = room_up in
       let a = row_grows ps (level - 1) (tree_of t (suc (level - 1)) at) in
-      let b = ap (λ (k : Tree (level - 1)). (row ps (level - 1) k).nodes) (kid_is t used (level - 1) at ps rdy) in
+      let b = ap (λ (k : Tree (level - 1)). (row ps (level - 1) k).nodes) (kid_there t used (level - 1) at ps rdy) in
       subst (λ (c : ℕ). used + (row ps (level - 1) (tree_of t (level - 1) c)).nodes ≤ length t) child_eq (omega arith)
 
+  full : 7 ≤ nd.count → length (held (get_or t at no_node)) ≡ 7
+  full h = omega (arith, all_held, (knot_parts (level - 1) 0 (tree_of t (suc (level - 1)) at) rdy.shape).most)
+
   -- what was written below
-  module _ {ents nexts : List Entry} {t1 : List Node} {r : Option ℕ} {used1 : ℕ} (came : Entered t t1 used ents nexts ps (level - 1) (get_or nd.children J 0) r used1) where
+  module _ {t1 : List Node} {r : Option ℕ} {used1 : ℕ} (came : Entered t t1 used ents nexts ps (level - 1) (get_or nd.children i 0) r used1) where
     back : (q : Option ℕ) → r ≡ q → Entered t t1 used ents nexts ps (level - 1) (child t used (level - 1) at ps rdy) q used1
-    back q e = subst (λ (c : ℕ). Entered t t1 used ents nexts ps (level - 1) c q used1) (sym child_eq) (subst (λ (x : Option ℕ). Entered t t1 used ents nexts ps (level - 1) (get_or nd.children J 0) x used1) e came)
+    back q is = subst (λ (c : ℕ). Entered t t1 used ents nexts ps (level - 1) c q used1) (sym child_eq) (subst (λ (x : Option ℕ). Entered t t1 used ents nexts ps (level - 1) (get_or nd.children i 0) x used1) is came)
 
     lift : (t2 : List Node) (q : Option ℕ) (used2 : ℕ) → Entered t t2 used ents nexts ps (suc (level - 1)) at q used2 → Entered t t2 used ents nexts ps level at q used2
     lift t2 q used2 ent = subst (λ (m : ℕ). Entered t t2 used ents nexts ps m at q used2) (sym s.one_up) ent
 
     pub at_stays : r ≡ None → Entered t t1 used ents nexts ps level at r used1
-    at_stays e = subst (λ (q : Option ℕ). Entered t t1 used ents nexts ps level at q used1) (sym e) (lift t1 None used1 (stays t used (level - 1) at ps rdy ents nexts t1 used1 (back None e)))
+    at_stays is = subst (λ (q : Option ℕ). Entered t t1 used ents nexts ps level at q used1) (sym is) (lift t1 None used1 (stays t used (level - 1) at ps rdy ents nexts t1 used1 (back None is)))
 
     -- m is the node with its following entry renewed
-    module _ {y : ℕ} (rises : r ≡ Some y) (m : Node) (hm : held m ≡ set (held nd) J (get_or nexts (level - 1) no_entry)) (lm : links m ≡ links nd) where
+    module _ {y : ℕ} (rises : r ≡ Some y) (m : Node) (hm : held m ≡ set (held nd) i n) (lm : links m ≡ links nd) where
+      abbrev J : ℕ
+      J = get_or ps (level - 1) 0
+
       abbrev X : List Entry
       X = insert (set (held (get_or t at no_node)) J (get_or nexts (level - 1) no_entry)) J (get_or ents (level - 1) no_entry)
 
       abbrev Z : List ℕ
       Z = insert (links (get_or t at no_node)) (suc J) y
 
-      xs_is : insert (held m) J (get_or ents (level - 1) no_entry) ≡ X
-      xs_is = ap (λ (z : List Entry). insert z J (get_or ents (level - 1) no_entry)) (hm ∙ ap (λ (z : Node). set (held z) J (get_or nexts (level - 1) no_entry)) s.is)
+      xs_is : insert (held m) i e ≡ X
+      xs_is = rw (hm, s.node, s.place, s.entry, s.next) refl
 
-      zs_is : insert (links m) (J + 1) y ≡ Z
-      zs_is = ap (λ (k : ℕ). insert (links m) k y) (add-one J) ∙ ap (λ (z : List ℕ). insert z (suc J) y) (lm ∙ ap links s.is)
+      zs_is : insert (links m) (i + 1) y ≡ Z
+      zs_is = rw (lm, s.node, s.place, add-one J) refl
 
-      pub at_put : length (held nd) < 7 → (wide : Node) (t2 : List Node) → wide ≡ packed (insert (held m) J (get_or ents (level - 1) no_entry)) (insert (links m) (J + 1) y) → t2 ≡ set t1 at wide → Entered t t2 used ents nexts ps level at None used1
-      at_put lt wide t2 w is2 =
-          let lt' : length (held (get_or t at no_node)) < 7 = rw s.is at lt in
-          let e : packed X Z ≡ wide = sym (w ∙ (ap (λ (a : List Entry). packed a (insert (links m) (J + 1) y)) xs_is ∙ ap (λ (a : List ℕ). packed X a) zs_is)) in
-          subst (λ (u : List Node). Entered t u used ents nexts ps level at None used1) (ap (λ (x : Node). set t1 at x) e ∙ sym is2)
-          (lift (set t1 at (packed X Z)) None used1 (wider t used (level - 1) at ps rdy ents nexts t1 y used1 (back (Some y) rises) lt'))
+      pub at_put : nd.count < 7 → (wide : Node) (t2 : List Node) → wide ≡ packed (insert (held m) i e) (insert (links m) (i + 1) y) → t2 ≡ set t1 at wide → Entered t t2 used ents nexts ps level at None used1
+      at_put lt wide t2 w is =
+          let k : set t1 at (packed X Z) ≡ t2 = sym (rw (is, w, xs_is, zs_is) refl) in
+          subst (λ (u : List Node). Entered t u used ents nexts ps level at None used1) k
+          (lift (set t1 at (packed X Z)) None used1 (wider t used (level - 1) at ps rdy ents nexts t1 y used1 (back (Some y) rises) (omega (arith, all_held))))
 
-      pub at_split : used + (row ps level (tree_of t level at)).nodes ≤ length t → length (held nd) ≡ 7 → (left right : Node) (t3 : List Node)
-          → left ≡ packed (take 4 (insert (held m) J (get_or ents (level - 1) no_entry))) (take 5 (insert (links m) (J + 1) y))
-          → right ≡ packed (drop 5 (insert (held m) J (get_or ents (level - 1) no_entry))) (drop 5 (insert (links m) (J + 1) y))
+      pub at_split : 7 ≤ nd.count → (left right : Node) (t3 : List Node)
+          → left ≡ packed (take 4 (insert (held m) i e)) (take 5 (insert (links m) (i + 1) y)) → right ≡ packed (drop 5 (insert (held m) i e)) (drop 5 (insert (links m) (i + 1) y))
           → t3 ≡ set (set t1 at left) used1 right → Entered t t3 used ents nexts ps level at (Some used1) (used1 + 1)
-      at_split room full left right t3 wl wr is3 =
-          let full' : length (held (get_or t at no_node)) ≡ 7 = rw s.is at full in
-          let a = xs_is in
-          let b = zs_is in
-          let el : left ≡ packed (take 4 X) (take 5 Z) = wl ∙ (ap (λ (q : List Entry). packed (take 4 q) (take 5 (insert (links m) (J + 1) y))) a ∙ ap (λ (q : List ℕ). packed (take 4 X) (take 5 q)) b) in
-          let er : right ≡ packed (drop 5 X) (drop 5 Z) = wr ∙ (ap (λ (q : List Entry). packed (drop 5 q) (drop 5 (insert (links m) (J + 1) y))) a ∙ ap (λ (q : List ℕ). packed (drop 5 X) (drop 5 q)) b) in
-          let e3 : t3 ≡ set (set t1 at (packed (take 4 X) (take 5 Z))) used1 (packed (drop 5 X) (drop 5 Z)) = is3 ∙ (ap (λ (q : Node). set (set t1 at q) used1 right) el ∙ ap (λ (q : Node). set (set t1 at (packed (take 4 X) (take 5 Z))) used1 q) er) in
-          subst (λ (u : List Node). Entered t u used ents nexts ps level at (Some used1) (used1 + 1)) (sym e3)
-          (lift (set (set t1 at (packed (take 4 X) (take 5 Z))) used1 (packed (drop 5 X) (drop 5 Z))) (Some used1) (used1 + 1) (cut_in_two t used (level - 1) at ps rdy ents nexts t1 y used1 (back (Some y) rises) (room_up room) full'))
+      at_split h left right t3 wl wr is =
+          let u = set (set t1 at (packed (take 4 X) (take 5 Z))) used1 (packed (drop 5 X) (drop 5 Z)) in
+          let k : u ≡ t3 = sym (rw (is, wl, wr, xs_is, zs_is) refl) in
+          subst (λ (u : List Node). Entered t u used ents nexts ps level at (Some used1) (used1 + 1)) k
+          (lift u (Some used1) (used1 + 1) (cut_in_two t used (level - 1) at ps rdy ents nexts t1 y used1 (back (Some y) rises) room_up (full h)))
 
     -- the node that the right half takes is a new one of the table
-    pub at_fresh : {y : ℕ} → r ≡ Some y → used + (row ps level (tree_of t level at)).nodes ≤ length t → length (held nd) ≡ 7 → (used ≤ used1) × (used1 < length t1)
-    at_fresh {y} e room full =
-        let full' : length (held (get_or t at no_node)) ≡ 7 = rw s.is at full in
-        let bk = back (Some y) e in
-        let f = new_in_table t used (level - 1) at ps rdy ents nexts t1 y used1 bk (room_up room) full' in
+    pub at_fresh : {y : ℕ} → r ≡ Some y → 7 ≤ nd.count → (used ≤ used1) × (used1 < length t1)
+    at_fresh {y} is h =
+        let bk = back (Some y) is in
+        let f = new_in_table t used (level - 1) at ps rdy ents nexts t1 y used1 bk room_up (full h) in
         let k = bk.taken in
         let b = build_used used ents nexts ps (level - 1) (tree_of t (level - 1) (child t used (level - 1) at ps rdy)) in
         (omega arith, omega arith)
 
-pub at_empty : (t : List Node) (used : ℕ) (ents nexts : List Entry) (ps : List ℕ) (level at : ℕ) → level ≡ 0 → Ready t used ps level at → Entered t t used ents nexts ps level at (Some 0) used
-at_empty t used ents nexts ps zero at z rdy = record { left = refl; linked = refl; taken = refl; frame = λ p lt h. refl; long = refl; packs = rdy.packs; rest = λ p lt. refl }
-at_empty t used ents nexts ps (suc l) at z rdy = absurd (omega arith)
-
-pub set_taken : {X : Type 0} (c i : ℕ) (xs : List X) (y : X) → take c (set xs i y) ≡ set (take c xs) i y
-set_taken zero i xs y = refl
-set_taken (suc c) i [] y = refl
-set_taken (suc c) zero (x ∷ xs) y = refl
-set_taken (suc c) (suc i) (x ∷ xs) y = ap (λ zs. x ∷ zs) (set_taken c i xs y)
+pub at_empty : {t : List Node} {used : ℕ} {ents nexts : List Entry} {ps : List ℕ} {level at : ℕ} → level ≡ 0 → Ready t used ps level at → Entered t t used ents nexts ps level at (Some 0) used
+at_empty {level = zero} z rdy = record { left = refl; linked = refl; taken = refl; frame = λ p lt h. refl; long = refl; packs = rdy.packs; rest = λ p lt. refl }
+at_empty {level = suc l} z rdy = absurd (omega arith)

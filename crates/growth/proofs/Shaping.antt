@@ -1,5 +1,5 @@
 -- The shape of a tree that grows, the nodes that it takes, and the records fetched.
-use Rattle.std.proofs.Common.{◌≡◌, ℕ, zero, suc, ◌+◌, ◌*◌, ◌<◌, ◌≤◌, Bool, true, false, cond, ◌&&◌, eqb, ltb, leb, List, [], ◌∷◌, ◌++◌, length, get_or, take, drop, set, sym, refl, ◌∙◌, arith}
+use Rattle.std.proofs.Common.{◌≡◌, ℕ, zero, suc, ◌+◌, ◌*◌, ◌≤◌, Bool, true, false, cond, ◌&&◌, eqb, ltb, leb, List, [], ◌∷◌, ◌++◌, length, get_or, take, drop, set, sym, refl, ◌∙◌, arith}
 use Rattle.std.specs.List.{insert}
 use Rattle.std.proofs.lemmas.List.Edits.{length-insert}
 use Rattle.std.proofs.lemmas.List.{length-append, length-drop, length-set, length-take-le}
@@ -10,6 +10,7 @@ use Rattle.growth.specs.Growth.{Row, Up, asked, grow, join, parted, put, rise, r
 use Rattle.growth.specs.Plans.{lifts}
 use Rattle.growth.specs.Routes.{Within}
 use Rattle.growth.specs.Writes.{Right, build, built, crowned, cut, fit, none, right_of, some}
+use Rattle.nodes.proofs.Shapes.{Parts, kid_shaped, knot_parts}
 use Rattle.nodes.specs.Faith.{View, made}
 use Rattle.nodes.specs.Trees.{Knot, Tree, all, bare, no_entry, shaped}
 use Rattle.nodes.specs.declared.node.Entry.{Entry}
@@ -34,25 +35,6 @@ module _ {X : Type 0} (f : X → Bool) where
   all_drop zero xs a = a
   all_drop (suc n) [] a = refl
   all_drop (suc n) (x ∷ xs) a = all_drop n xs (and_parts (f x) (all f xs) a).1
-
-  pub all_at : (xs : List X) (i : ℕ) (d : X) → i < length xs → all f xs ≡ true → f (get_or xs i d) ≡ true
-  all_at [] i d lt h = absurd (omega arith)
-  all_at (x ∷ xs) zero d lt h = (and_parts (f x) (all f xs) h).0
-  all_at (x ∷ xs) (suc i) d lt h = all_at xs i d (omega arith) (and_parts (f x) (all f xs) h).1
-
-pub record Parts (l low : ℕ) (k : Knot (Tree l)) : Type 0 where
-  pub least : low ≤ length k.entries
-  pub most : length k.entries ≤ 7
-  pub many : length k.kids ≡ length k.entries + 1
-  pub each : all (shaped l 3) k.kids ≡ true
-
-pub knot_parts : (l low : ℕ) (k : Knot (Tree l)) → shaped (suc l) low k ≡ true → Parts l low k
-knot_parts l low k h =
-    let n = length k.entries in
-    let p = and_parts (leb low n) (leb n 7 && (eqb (length k.kids) (n + 1) && all (shaped l 3) k.kids)) h in
-    let q = and_parts (leb n 7) (eqb (length k.kids) (n + 1) && all (shaped l 3) k.kids) p.1 in
-    let r = and_parts (eqb (length k.kids) (n + 1)) (all (shaped l 3) k.kids) q.1 in
-    record { least = grind (arith, nat_tests); most = grind (arith, nat_tests); many = grind (arith, nat_tests); each = r.1 }
 
 pub knot_shaped : (l low : ℕ) (k : Knot (Tree l)) → Parts l low k → shaped (suc l) low k ≡ true
 knot_shaped l low k p =
@@ -116,7 +98,7 @@ grow_shapes v used x o ps (suc l) low t h w =
     let q = knot_parts l low t h in
     let kid = get_or t.kids i (bare l) in
     let g = grow v used x o ps l kid in
-    join_shapes v x l low t i g.left g.up g.used g.fetched h w.0 (grow_shapes v used x o ps l 3 kid (all_at (shaped l 3) t.kids i (bare l) (omega (arith, q.many, w.0)) q.each) w.1)
+    join_shapes v x l low t i g.left g.up g.used g.fetched h w.0 (grow_shapes v used x o ps l 3 kid (kid_shaped q i w.0) w.1)
 
 root_shaped : (l u : ℕ) (e : Entry) (left t : Tree l) → shaped l 3 left ≡ true → shaped l 3 t ≡ true → shaped (suc l) 1 (record { at = u; entries = e ∷ []; kids = left ∷ (t ∷ []) }) ≡ true
 root_shaped l u e left t a b = knot_shaped l 1 (record { at = u; entries = e ∷ []; kids = left ∷ (t ∷ []) })
@@ -142,7 +124,7 @@ build_shapes used ents nexts ps (suc l) low t h w =
     let q = knot_parts l low t h in
     let kid = get_or t.kids i (bare l) in
     let g = build used ents nexts ps l kid in
-    fit_shapes l low (get_or ents l no_entry) (get_or nexts l no_entry) t i g.left g.right g.used h w.0 (build_shapes used ents nexts ps l 3 kid (all_at (shaped l 3) t.kids i (bare l) (omega (arith, q.many, w.0)) q.each) w.1)
+    fit_shapes l low (get_or ents l no_entry) (get_or nexts l no_entry) t i g.left g.right g.used h w.0 (build_shapes used ents nexts ps l 3 kid (kid_shaped q i w.0) w.1)
 
 crowned_shape : (e : Entry) (l : ℕ) (left : Tree l) (right : Right (Tree l)) (u : ℕ) → Shapes l 1 left right → shaped (crowned e l left right u).levels 1 (crowned e l left right u).tree ≡ true
 crowned_shape e l left none u s = s

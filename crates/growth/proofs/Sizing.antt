@@ -5,10 +5,10 @@ use Rattle.std.specs.List.{insert}
 use Rattle.std.proofs.lemmas.List.{length-append}
 use Rattle.std.proofs.lemmas.Bool.{and_parts, cases_lt}
 use Rattle.growth.proofs.Linking.{total-cut, total_inserted, total-set}
-use Rattle.growth.proofs.Shaping.{all_at, knot_parts}
 use Rattle.growth.specs.Growth.{Up, asked, grow, join, parted, put, rise, stay, topped}
 use Rattle.growth.specs.Routes.{Within}
 use Rattle.growth.specs.Theorems.{LevelsFew, NodesCounted, RecordsFew}
+use Rattle.nodes.proofs.Shapes.{kid_shaped, knot_parts}
 use Rattle.nodes.specs.Faith.{View}
 use Rattle.nodes.specs.Trees.{Knot, Tree, all, bare, nodes, records, shaped, total, weave}
 use Rattle.nodes.specs.declared.node.Entry.{Entry}
@@ -94,7 +94,7 @@ grow-nodes v used x o ps (suc l) low t h w =
     let lt : i < length t.kids = omega (arith, q.many, w.0) in
     let kid = get_or t.kids i (bare l) in
     let g = grow v used x o ps l kid in
-    join-nodes v x l t i g.left g.up g.used g.fetched used lt (grow-nodes v used x o ps l 3 kid (all_at (shaped l 3) t.kids i (bare l) lt q.each) w.1)
+    join-nodes v x l t i g.left g.up g.used g.fetched used lt (grow-nodes v used x o ps l 3 kid (kid_shaped q i w.0) w.1)
 
 topped-nodes : (v : View) (l : ℕ) (left : Tree l) (up : Up (Tree l)) (u : ℕ) (f : List ℕ) (used n : ℕ) → nodes l left + up_nodes l up + used ≡ n + u → nodes (topped v l left up u f).levels (topped v l left up u f).tree + used ≡ n + (topped v l left up u f).used
 topped-nodes v l left stay u f used n h = omega arith

@@ -12,8 +12,8 @@ use crate::split::{FULL, node_of, put_in, renewed, split_in};
 use nodes::node::Node;
 
 /// How a tree stands in a table: its levels, the node of its root, and the nodes in use, which are the table's first.
-// Kept apart from the table: that is borrowed, here to read and there to write, and a tree under another is a top over the same table.
-// That it has 7 levels at most is asked, and no invariant: growth may give one more.
+// Kept: apart from the table, which is borrowed, here to read and there to write; a struct that borrows is two values in a clause.
+// Kept: no invariant says that it has 7 levels at most, since growth may give one more.
 #[derive(Clone, Copy)]
 pub struct Top {
     pub levels: u8,

@@ -9,8 +9,8 @@ use nodes::table::NO_ENTRY;
 /// The records of a full node.
 pub const FULL: u8 = 7;
 
-// Of a full node's records and one more, the first four remain, and the fifth moves up.
-const REMAIN: usize = 4;
+/// Of a full node's records and one more, the first four remain, and the one at this place moves up.
+pub const MOVES_UP: usize = 4;
 
 // The place of the first that goes right.
 const RIGHT_FROM: usize = 5;
@@ -40,6 +40,7 @@ struct Overfull {
 }
 
 impl Overfull {
+    // Kept: a place, an entry and a link are put together at each call, and nothing carries them on.
     fn new(n: &Node, i: usize, e: Entry, right: u16) -> Overfull
         requires { i ≤ 7 }
         ensures entries { result.entries ≡ insert n.now.entries i e }
@@ -82,7 +83,7 @@ pub fn split_in(n: &Node, i: usize, e: Entry, link: u16) -> Halves
 {
     let wide = Overfull::new(n, i, e, link);
     Halves {
-        left: node_of(&wide.entries[..REMAIN], &wide.links[..=REMAIN]),
+        left: node_of(&wide.entries[..MOVES_UP], &wide.links[..=MOVES_UP]),
         right: node_of(&wide.entries[RIGHT_FROM..], &wide.links[RIGHT_FROM..]),
     }
 }

@@ -6,6 +6,7 @@ use crate::key::WIDEST;
 use crate::zeros::leading_zeros;
 
 /// How a key stands to another of its width. The number is their offset: the first bit in which they differ.
+// Kept: three answers, like `Ordering`'s; an `Option` of an order and an offset would read no plainer.
 #[derive(Clone, Copy, Debug, PartialEq, Eq)]
 pub enum Comparison {
     Equal,

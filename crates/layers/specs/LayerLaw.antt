@@ -1,5 +1,5 @@
 -- A layer is a lawful store: the proofs that the ghost members of maps and layers give.
-use Rattle.std.specs.Prelude.{ℕ, ◌-◌, ◌<◌, List, take, drop}
+use Rattle.std.specs.Prelude.{◌≡◌, ℕ, ◌-◌, ◌<◌, min, List, length, take, drop}
 use Rattle.std.proofs.Common.{arith}
 use Rattle.std.proofs.ByRecursion.{All-append, All-drop, All-map, All-take, All-weaker}
 use Rattle.std.proofs.lemmas.Grind.{common_steps}
@@ -24,6 +24,13 @@ inverted_keeps w k h = (
   grind (arith, common_steps),
   All-map (λ b. b < 256) (λ b. 255 - b) k (All-weaker (λ b. b < 256) (λ b. 255 - b < 256) (λ x _. omega arith) k h.1),
 )
+
+pub length-turned : (cut : ℕ) (k : List ℕ) → length (turned cut k) ≡ length k
+length-turned cut k = grind (arith, common_steps)
+
+-- a cut above the length counts as the length
+pub turned_within : (cut : ℕ) (k : List ℕ) → turned (min cut (length k)) k ≡ turned cut k
+turned_within cut k = grind (arith, common_steps)
 
 pub turned_keeps : (cut : ℕ) → KeepsKeys (turned cut)
 turned_keeps cut w k h = (

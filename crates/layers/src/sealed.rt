@@ -28,6 +28,7 @@ impl<S> Sealed<S> {
     }
 }
 
+// Kept: what the store below tells is passed on call by call, as a layer does; a trait for that would be longer than the calls.
 impl<S: ReadingStore> ReadingStore for Sealed<S> {
     ghost meaning = { λ s. sealed (S.ReadingStore.meaning s.below) };
 

@@ -29,5 +29,5 @@ pub fn clear(table: &mut [Node])
     ensures { table.new ≡ cleared table.old }
 {
     let most = table.len().min(MOST_NODES);
-    table[0..most].fill(ZERO_NODE);
+    table[..most].fill(ZERO_NODE);
 }

@@ -17,6 +17,7 @@ pub struct Class {
 const WIDTH: usize = 1;
 
 /// The class of a number.
+// Kept: each part converts by impls of its own types; an impl that a macro of the repository writes is refused.
 impl From<u8> for Class {
     ghost from_gives = { λ number class. class.number ≡ number };
 

@@ -12,7 +12,7 @@ pub struct Pair<A, B> {
     pub second: B,
 }
 
-// What a pair wider than a key tells.
+// What a pair wider than a key tells. Kept: a width that every part tells in one way, by the trait's rule.
 const TOO_WIDE: usize = WIDEST + 1;
 
 impl<A: Part, B: Part> Part for Pair<A, B> {

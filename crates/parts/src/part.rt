@@ -18,6 +18,7 @@ pub trait Part {
     ghost lawful: { Ranks size rank less };
 
     /// The width in bytes, or 33 where it is above 32.
+    // Kept: each part tells its own, since that of a pair is computed from two and no constant can be.
     fn width() -> usize
         ensures { result ≡ told_width_of size };
 

@@ -1,26 +1,30 @@
 -- A plan on its way up.
 use Rattle.std.proofs.Common.{◌≡◌, ℕ, zero, suc, ◌+◌, ◌^◌, ◌<◌, ◌≤◌, Bool, true, false, cond, ltb, List, [], ◌++◌, length, get_or, set, IsErrAnd, Some, None, Ok, Err, Option, Result, sym, refl, ap, ◌∙◌, subst, inl, inr, append_assoc, add-one, arith}
 use Rattle.std.specs.List.{insert}
-use Rattle.std.proofs.lemmas.List.{append-nil, get_or-set_other, get_or-set_same}
+use Rattle.std.proofs.lemmas.List.{append-nil, get_or-set_other, get_or-set_same, length-set, take_all}
 use Rattle.std.proofs.lemmas.Bool.{cases_lt}
 use Rattle.std.proofs.lemmas.Bool.Decides.{nat_tests}
+use Rattle.growth.proofs.Pathing.{entry_at, follower_at, no_line}
 use Rattle.growth.proofs.Tracing.{put_by_writes}
 use Rattle.growth.specs.Growth.{asked, follow, put}
 use Rattle.growth.specs.Plans.{carry, lifted, next_carry, Trace, trace, traced}
+use Rattle.growth.specs.declared.plan.Line.{Line}
 use Rattle.growth.specs.declared.plan.Plan.{Plan}
 use Rattle.keys.specs.Partials.{partial_of}
 use Rattle.nodes.specs.Faith.{made, View}
+use Rattle.nodes.specs.Tables.{held}
 use Rattle.nodes.specs.Trees.{no_entry}
 use Rattle.nodes.specs.declared.node.Entry.{Entry}
+use Rattle.nodes.specs.declared.node.Node.{Node}
 use Rattle.plans.proofs.Reading.{fetches_none, fetches_on, fetches_stop}
 use Rattle.plans.proofs.Stepping.{entry-made}
 use Rattle.plans.specs.Planning.{Plans}
 use Rattle.plans.specs.Reads.{Fetches}
 use Rattle.plans.specs.Steps.{Nexted, Refilled}
 use Rattle.search.specs.TreeLaw.{view_of}
+use Rattle.store.proofs.Fetching.{passed_up}
 use Rattle.store.specs.Meaning.{Meaning, key_of}
 use Rattle.store.specs.declared.reading.Missing.{Missing}
-use Rattle.growth.specs.Paths.{entries_of, followers_of}
 
 -- the trace
 module _ (v : View) (x o : ℕ) (es : ℕ → List Entry) (ps : List ℕ) where
@@ -71,31 +75,41 @@ module _ (v : View) (x o : ℕ) (es : ℕ → List Entry) (ps : List ℕ) where
       ]
 
 -- Where a plan stands at a height: what came up to it, with its key; the reads of the trace so far; and what it has planned.
-pub record Going (keep : ℕ) (m : Meaning) (x o : ℕ) (es : ℕ → List Entry) (ps : List ℕ) (h r u : ℕ) (key : List ℕ) (ents nexts : List Entry) (m1 : Meaning) : Type 0 where
+pub record Going (keep : ℕ) (m : Meaning) (x o : ℕ) (es : ℕ → List Entry) (ps : List ℕ) (h r u : ℕ) (key : List ℕ) (lines : List Line) (m1 : Meaning) : Type 0 where
   pub number_is : r ≡ (carry (view_of keep m) x o es ps h).number
   pub offset_is : u ≡ (carry (view_of keep m) x o es ps h).offset
   pub whole : (trace (view_of keep m) x o es ps h).whole ≡ true
   pub fetched : Fetches m (trace (view_of keep m) x o es ps h).list None m1
   pub key_is : key ≡ key_of m r
   pub key_long : length key ≡ m.width
-  pub entries : (k : ℕ) → k < h → get_or ents k no_entry ≡ made (view_of keep m) (carry (view_of keep m) x o es ps k).number (carry (view_of keep m) x o es ps k).offset
-  pub follows : (k : ℕ) → k < h → get_or ps k 0 < length (es k) → get_or nexts k no_entry ≡ follow (view_of keep m) (carry (view_of keep m) x o es ps k).number (carry (view_of keep m) x o es ps k).offset (get_or (es k) (get_or ps k 0) no_entry)
+  pub long : length lines ≡ 8
+  pub entries : (k : ℕ) → k < h → (get_or lines k no_line).entry ≡ made (view_of keep m) (carry (view_of keep m) x o es ps k).number (carry (view_of keep m) x o es ps k).offset
+  pub follows : (k : ℕ) → k < h → get_or ps k 0 < length (es k) → (get_or lines k no_line).follower ≡ follow (view_of keep m) (carry (view_of keep m) x o es ps k).number (carry (view_of keep m) x o es ps k).offset (get_or (es k) (get_or ps k 0) no_entry)
 
-pub going_start : (keep : ℕ) (m : Meaning) (x o : ℕ) (es : ℕ → List Entry) (ps : List ℕ) (key : List ℕ) (ents nexts : List Entry) → m.tally < 2 ^ 32 → key ≡ key_of m x → length key ≡ m.width → Going keep m x o es ps 0 x o key ents nexts m
-going_start keep m x o es ps key ents nexts f k w = record { number_is = refl; offset_is = refl; whole = refl; fetched = fetches_none m f; key_is = k; key_long = w; entries = λ k lt. absurd (omega arith); follows = λ k lt. absurd (omega arith) }
+pub going_start : (keep : ℕ) (m : Meaning) (x o : ℕ) (es : ℕ → List Entry) (ps : List ℕ) (key : List ℕ) (lines : List Line) → length lines ≡ 8 → m.tally < 2 ^ 32 → key ≡ key_of m x → length key ≡ m.width → Going keep m x o es ps 0 x o key lines m
+going_start keep m x o es ps key lines n f k w = record { number_is = refl; offset_is = refl; whole = refl; fetched = fetches_none m f; key_is = k; key_long = w; long = n; entries = λ k lt. absurd (omega arith); follows = λ k lt. absurd (omega arith) }
 
-set_all : (xs : List Entry) (h : ℕ) (y : Entry) (P : ℕ → Entry → Type 0) → h < length xs → ((k : ℕ) → k < h → P k (get_or xs k no_entry)) → P h y → (k : ℕ) → k < h + 1 → P k (get_or (set xs h y) k no_entry)
+set_all : (xs : List Line) (h : ℕ) (y : Line) (P : ℕ → Line → Type 0) → h < length xs → ((k : ℕ) → k < h → P k (get_or xs k no_line)) → P h y → (k : ℕ) → k < h + 1 → P k (get_or (set xs h y) k no_line)
 set_all xs h y P lt before here k lk = elim (cases_lt k h) [
-  | inl a ↦ subst (P k) (sym (get_or-set_other xs h k y no_entry (omega arith))) (before k a)
-  | inr b ↦ (let e : h ≡ k = omega arith in subst (λ (j : ℕ). P j (get_or (set xs h y) j no_entry)) e (subst (P h) (sym (get_or-set_same xs h y no_entry lt)) here))
+  | inl a ↦ subst (P k) (sym (get_or-set_other xs h k y no_line (omega arith))) (before k a)
+  | inr b ↦ (let e : h ≡ k = omega arith in subst (λ (j : ℕ). P j (get_or (set xs h y) j no_line)) e (subst (P h) (sym (get_or-set_same xs h y no_line lt)) here))
 ]
 
--- what `?` passes on is the record that was missing
-passed_on : (keep : ℕ) (m : Meaning) (x o : ℕ) (es : ℕ → List Entry) (ps : List ℕ) (levels : ℕ) (q : Missing) (m2 : Meaning) (res : Result Plan Missing) → IsErrAnd res (λ e. e ≡ q) → Plans keep m x o es ps levels (Err q) m2 → Plans keep m x o es ps levels res m2
-passed_on keep m x o es ps levels q m2 (Ok p) e h = absurd e
-passed_on keep m x o es ps levels q m2 (Err e) is h = subst (λ (z : Missing). Plans keep m x o es ps levels (Err z) m2) (sym is) h
+-- A node at a height once its line is planned: nd the node, i the place in it, ent and n the entry and the following one, m2 the
+-- store then.
+pub record Lined {keep : ℕ} {m : Meaning} {x o : ℕ} {es : ℕ → List Entry} {ps : List ℕ} {h r u : ℕ} {key : List ℕ} {lines : List Line} {m1 : Meaning}
+    (go : Going keep m x o es ps h r u key lines m1) (levels : ℕ) (m2 : Meaning) (nd : Node) (i : ℕ) (ent n : Entry) : Type 0 where
+  pub below : h < levels
+  pub deep : levels ≤ 7
+  pub node : held nd ≡ es h
+  pub few : nd.count ≤ 7
+  pub counted : nd.count ≡ length (es h)
+  pub place : i ≡ get_or ps h 0
+  pub within : i ≤ nd.count
+  pub made : ent ≡ record { number = r; partial = partial_of keep key u }
+  pub next : Nexted keep m1 r u (get_or ps h 0) (es h) (Ok n) m2
 
-module _ {keep : ℕ} {m : Meaning} {x o : ℕ} {es : ℕ → List Entry} {ps : List ℕ} {h r u : ℕ} {key : List ℕ} {ents nexts : List Entry} {m1 : Meaning} (go : Going keep m x o es ps h r u key ents nexts m1) where
+module _ {keep : ℕ} {m : Meaning} {x o : ℕ} {es : ℕ → List Entry} {ps : List ℕ} {h r u : ℕ} {key : List ℕ} {lines : List Line} {m1 : Meaning} (go : Going keep m x o es ps h r u key lines m1) where
   abbrev V : View
   V = view_of keep m
 
@@ -111,105 +125,103 @@ module _ {keep : ℕ} {m : Meaning} {x o : ℕ} {es : ℕ → List Entry} {ps : 
   abbrev O : ℕ
   O = (carry V x o es ps h).offset
 
-  -- what the call for the following entry says
-  abbrev Next : Result Entry Missing → Meaning → Type 0
-  Next res m2 = Nexted keep m1 r u (get_or ps h 0) (es h) res m2
-
-  -- the store as the plan sees it has not changed
-  same_view : view_of keep m1 ≡ V
-  same_view = ap (view_of keep) go.fetched.reads
-
-  same_next : (n : Entry) (m2 : Meaning) → Next (Ok n) m2 → get_or ps h 0 < length (es h) → n ≡ follow V R O (get_or (es h) (get_or ps h 0) no_entry)
-  same_next n m2 nx lt =
-      nx.0 lt ∙ (ap (λ (z : View). follow z r u (get_or (es h) (get_or ps h 0) no_entry)) same_view
-      ∙ (ap (λ (z : ℕ). follow V z u (get_or (es h) (get_or ps h 0) no_entry)) go.number_is ∙ ap (λ (z : ℕ). follow V R z (get_or (es h) (get_or ps h 0) no_entry)) go.offset_is))
-
   -- the reads with this node's following key
   asked_on : (q : Option ℕ) (m2 : Meaning) → Fetches m1 (asked u (get_or ps h 0) (es h)) q m2 → Fetches m (L h ++ A) q m2
   asked_on q m2 f = fetches_on m m1 m2 (L h) A q go.fetched (subst (λ (z : ℕ). Fetches m1 (asked z (get_or ps h 0) (es h)) q m2) go.offset_is f)
 
-  -- an entry made here of the key of what came up
-  abbrev Made : Entry → Type 0
-  Made ent = ent ≡ record { number = r; partial = partial_of keep key u }
-
-  ent_is : (ent : Entry) → Made ent → ent ≡ made V R O
+  ent_is : (ent : Entry) → ent ≡ record { number = r; partial = partial_of keep key u } → ent ≡ made V R O
   ent_is ent e =
       entry-made keep m r u key ent go.key_is go.key_long e
       ∙ (ap (λ (z : ℕ). made V z u) go.number_is ∙ ap (λ (z : ℕ). made V R z) go.offset_is)
 
-  entries_on : (ent : Entry) → Made ent → h < length ents → (k : ℕ) → k < h + 1 → get_or (set ents h ent) k no_entry ≡ made V (carry V x o es ps k).number (carry V x o es ps k).offset
-  entries_on ent e lt = set_all ents h ent (λ k y. y ≡ made V (carry V x o es ps k).number (carry V x o es ps k).offset) lt go.entries (ent_is ent e)
+  entries_on : (ent f : Entry) → ent ≡ record { number = r; partial = partial_of keep key u } → h < 8
+      → (k : ℕ) → k < h + 1 → (get_or (set lines h (record { entry = ent; follower = f })) k no_line).entry ≡ made V (carry V x o es ps k).number (carry V x o es ps k).offset
+  entries_on ent f e lt = set_all lines h (record { entry = ent; follower = f }) (λ k y. y.entry ≡ made V (carry V x o es ps k).number (carry V x o es ps k).offset) (omega (arith, go.long)) go.entries (ent_is ent e)
 
-  follows_on : (n : Entry) (m2 : Meaning) → Next (Ok n) m2 → h < length nexts
-      → (k : ℕ) → k < h + 1 → get_or ps k 0 < length (es k) → get_or (set nexts h n) k no_entry ≡ follow V (carry V x o es ps k).number (carry V x o es ps k).offset (get_or (es k) (get_or ps k 0) no_entry)
-  follows_on n m2 nx lt = set_all nexts h n (λ k y. get_or ps k 0 < length (es k) → y ≡ follow V (carry V x o es ps k).number (carry V x o es ps k).offset (get_or (es k) (get_or ps k 0) no_entry)) lt go.follows (same_next n m2 nx)
+  pub going_end : (levels : ℕ) (ent f : Entry) (p : Plan) → levels ≤ 7 → h ≡ levels → ent ≡ record { number = r; partial = partial_of keep key u } → p.lines ≡ set lines levels (record { entry = ent; follower = f }) → Plans keep m x o es ps levels (Ok p) m1
+  going_end levels ent f p deep there e is =
+      let at : p.lines ≡ set lines h (record { entry = ent; follower = f }) = is ∙ ap (λ (z : ℕ). set lines z (record { entry = ent; follower = f })) (sym there) in (
+        record {
+          entries = λ k lk w. sym (entry_at p refl) ∙ rw at (entries_on ent f e (omega arith) k (omega arith));
+          follows = λ k lk w y. sym (follower_at p refl) ∙ rw at (ap (λ (z : Line). z.follower) (get_or-set_other lines h k (record { entry = ent; follower = f }) no_line (omega arith)) ∙ go.follows k (omega arith) y);
+        },
+        subst (λ (z : ℕ). Fetches m (L z) None m1) there go.fetched,
+      )
 
-  -- a node with the entry that came up, by the code's two writes
-  abbrev written : (ent n : Entry) → List Entry
-  written ent n = insert (set (es h) (get_or ps h 0) n) (get_or ps h 0) ent
+  pub going_miss : (levels : ℕ) (q : Missing) (m2 : Meaning) (res : Result Plan Missing) → h < levels → IsErrAnd res (λ e. e ≡ q) → Nexted keep m1 r u (get_or ps h 0) (es h) (Err q) m2 → Plans keep m x o es ps levels res m2
+  going_miss levels q m2 res below is nx =
+      let f = trace_asks V x o es ps h levels (omega arith) go.whole in
+      passed_up (λ (z : Result Plan Missing). Plans keep m x o es ps levels z m2) res q is (subst (λ (z : List ℕ). Fetches m z (Some q.number) m2) (sym f.1) (fetches_stop m m2 (L h ++ A) f.0 q.number (asked_on (Some q.number) m2 nx)))
 
-  put_is : (ent n : Entry) (m2 : Meaning) → Made ent → get_or ps h 0 ≤ length (es h) → Next (Ok n) m2 → put V R O (get_or ps h 0) (es h) ≡ written ent n
-  put_is ent n m2 e pl nx = put_by_writes V R O (get_or ps h 0) (es h) n pl (same_next n m2 nx) ∙ ap (λ (y : Entry). written y n) (sym (ent_is ent e))
+  module _ {levels : ℕ} {m2 : Meaning} {nd : Node} {i : ℕ} {ent n : Entry} (w : Lined go levels m2 nd i ent n) where
+    -- the store as the plan sees it has not changed
+    same_view : view_of keep m1 ≡ V
+    same_view = ap (view_of keep) go.fetched.reads
 
-  -- the reads with the record that moves up
-  lifted_on : (ent n : Entry) (m2 m3 : Meaning) (r2 : ℕ) (q : Option ℕ) → Made ent → get_or ps h 0 ≤ length (es h) → 7 ≤ length (es h) → Next (Ok n) m2
-      → r2 ≡ (next_carry (written ent n)).number → Fetches m2 (lifted x r2) q m3 → Fetches m (L (suc h)) q m3
-  lifted_on ent n m2 m3 r2 q e pl full nx re f =
-      let r2is : r2 ≡ (carry V x o es ps (suc h)).number = re ∙ ap (λ (z : List Entry). (next_carry z).number) (sym (put_is ent n m2 e pl nx)) in
-      let lis : L (suc h) ≡ (L h ++ A) ++ lifted x r2 = ap (λ (z : Trace). z.list) (trace_more V x o es ps h go.whole full) ∙ ap (λ (z : ℕ). (L h ++ A) ++ lifted x z) (sym r2is) in
-      subst (λ (z : List ℕ). Fetches m z q m3) (sym lis) (fetches_on m m2 m3 (L h ++ A) (lifted x r2) q (asked_on None m2 nx.1) f)
+    same_next : get_or ps h 0 < length (es h) → n ≡ follow V R O (get_or (es h) (get_or ps h 0) no_entry)
+    same_next lt =
+        w.next.0 lt ∙ (ap (λ (z : View). follow z r u (get_or (es h) (get_or ps h 0) no_entry)) same_view
+        ∙ (ap (λ (z : ℕ). follow V z u (get_or (es h) (get_or ps h 0) no_entry)) go.number_is ∙ ap (λ (z : ℕ). follow V R z (get_or (es h) (get_or ps h 0) no_entry)) go.offset_is))
 
-  pub going_step : (ent n : Entry) (m2 m3 : Meaning) (r2 u2 : ℕ) (t : Unit {0}) (key2 : List ℕ) → Made ent → h < length ents → h < length nexts → get_or ps h 0 ≤ length (es h) → 7 ≤ length (es h)
-      → Next (Ok n) m2 → r2 ≡ (next_carry (written ent n)).number → u2 ≡ (next_carry (written ent n)).offset
-      → Refilled m2 x r2 (Ok t) m3 key2 → length key2 ≡ length key → Going keep m x o es ps (h + 1) r2 u2 key2 (set ents h ent) (set nexts h n) m3
-  going_step ent n m2 m3 r2 u2 t key2 e le ln pl full nx re ue rf lk =
-      let w = put_is ent n m2 e pl nx in
-      let up : h + 1 ≡ suc h = add-one h in
-      record {
-        number_is = rw up (re ∙ ap (λ (z : List Entry). (next_carry z).number) (sym w));
-        offset_is = rw up (ue ∙ ap (λ (z : List Entry). (next_carry z).offset) (sym w));
-        whole = rw up (ap (λ (z : Trace). z.whole) (trace_more V x o es ps h go.whole full));
-        fetched = rw up (lifted_on ent n m2 m3 r2 None e pl full nx re rf.1);
-        key_is = rf.0 ∙ ap (λ (z : Meaning). key_of z r2) (asked_on None m2 nx.1).reads;
-        key_long = lk ∙ go.key_long;
-        entries = entries_on ent e le;
-        follows = follows_on n m2 nx ln;
-      }
+    abbrev line : Line
+    line = record { entry = ent; follower = n }
 
-  pub going_end : (levels : ℕ) (ent : Entry) (p : Plan) → Made ent → h < length ents → h ≡ levels → entries_of p ≡ set ents h ent → followers_of p ≡ nexts → Plans keep m x o es ps levels (Ok p) m1
-  going_end levels ent p e le lv pe pn = (
-    record {
-      entries = λ k lk w. rw pe (entries_on ent e le k (omega arith));
-      follows = λ k lk w. rw pn (go.follows k (omega arith));
-    },
-    subst (λ (z : ℕ). Fetches m (L z) None m1) lv go.fetched,
-  )
+    follows_on : (k : ℕ) → k < h + 1 → get_or ps k 0 < length (es k) → (get_or (set lines h line) k no_line).follower ≡ follow V (carry V x o es ps k).number (carry V x o es ps k).offset (get_or (es k) (get_or ps k 0) no_entry)
+    follows_on = set_all lines h line (λ k y. get_or ps k 0 < length (es k) → y.follower ≡ follow V (carry V x o es ps k).number (carry V x o es ps k).offset (get_or (es k) (get_or ps k 0) no_entry)) (omega (arith, go.long, w.below, w.deep)) go.follows same_next
 
-  module _ (levels : ℕ) (below : h < levels) where
-    pub going_stop : (ent n : Entry) (m2 : Meaning) (p : Plan) → Made ent → h < length ents → h < length nexts → length (es h) < 7
-        → Next (Ok n) m2 → entries_of p ≡ set ents h ent → followers_of p ≡ set nexts h n → Plans keep m x o es ps levels (Ok p) m2
-    going_stop ent n m2 p e le ln few nx pe pn =
-        let stop = trace_stop V x o es ps h go.whole few in
+    -- the node with the entry that came up, by the code's two writes
+    abbrev written : List Entry
+    written = insert (set nd.entries i n) i ent
+
+    put_is : 7 ≤ nd.count → length nd.entries ≡ 7 → put V R O (get_or ps h 0) (es h) ≡ written
+    put_is full long =
+        let all : held nd ≡ nd.entries = take_all nd.count nd.entries (omega arith) in
+        put_by_writes V R O (get_or ps h 0) (es h) n (omega (arith, w.place, w.within, w.counted)) same_next
+        ∙ (ap (λ (y : Entry). insert (set (es h) (get_or ps h 0) n) (get_or ps h 0) y) (sym (ent_is ent w.made))
+        ∙ (ap (λ (j : ℕ). insert (set (es h) j n) j ent) (sym w.place) ∙ ap (λ (z : List Entry). insert (set z i n) i ent) (sym w.node ∙ all)))
+
+    -- the reads with the record that moves up
+    lifted_on : (m3 : Meaning) (r2 : ℕ) (q : Option ℕ) → 7 ≤ nd.count → length nd.entries ≡ 7 → r2 ≡ (next_carry written).number → Fetches m2 (lifted x r2) q m3 → Fetches m (L (suc h)) q m3
+    lifted_on m3 r2 q full long re f =
+        let r2is : r2 ≡ (carry V x o es ps (suc h)).number = re ∙ ap (λ (z : List Entry). (next_carry z).number) (sym (put_is full long)) in
+        let lis : L (suc h) ≡ (L h ++ A) ++ lifted x r2 = ap (λ (z : Trace). z.list) (trace_more V x o es ps h go.whole (omega (arith, w.counted))) ∙ ap (λ (z : ℕ). (L h ++ A) ++ lifted x z) (sym r2is) in
+        subst (λ (z : List ℕ). Fetches m z q m3) (sym lis) (fetches_on m m2 m3 (L h ++ A) (lifted x r2) q (asked_on None m2 w.next.1) f)
+
+    pub going_step : {r2 u2 : ℕ} {m3 : Meaning} {key2 : List ℕ} (t : Unit {0}) → 7 ≤ nd.count → length nd.entries ≡ 7 → r2 ≡ (next_carry written).number → u2 ≡ (next_carry written).offset
+        → Refilled m2 x r2 (Ok t) m3 key2 → length key2 ≡ length key → Going keep m x o es ps (h + 1) r2 u2 key2 (set lines h line) m3
+    going_step {r2} {u2} {m3} t full long re ue rf lk =
+        let p = put_is full long in
+        let up : h + 1 ≡ suc h = add-one h in
+        record {
+          number_is = rw up (re ∙ ap (λ (z : List Entry). (next_carry z).number) (sym p));
+          offset_is = rw up (ue ∙ ap (λ (z : List Entry). (next_carry z).offset) (sym p));
+          whole = rw up (ap (λ (z : Trace). z.whole) (trace_more V x o es ps h go.whole (omega (arith, w.counted))));
+          fetched = rw up (lifted_on m3 r2 None full long re rf.1);
+          key_is = rf.0 ∙ ap (λ (z : Meaning). key_of z r2) (asked_on None m2 w.next.1).reads;
+          key_long = lk ∙ go.key_long;
+          long = length-set lines h line ∙ go.long;
+          entries = entries_on ent n w.made (omega (arith, w.below, w.deep));
+          follows = follows_on;
+        }
+
+    pub going_stop : (p : Plan) → nd.count < 7 → p.lines ≡ set lines h line → Plans keep m x o es ps levels (Ok p) m2
+    going_stop p few is =
+        let stop = trace_stop V x o es ps h go.whole (omega (arith, w.counted)) in
         let nw : (trace V x o es ps (suc h)).whole ≡ false = ap (λ (z : Trace). z.whole) stop in
-        let st : L levels ≡ L h ++ A = ap (λ (z : Trace). z.list) (trace_stays V x o es ps (suc h) levels (omega arith) nw) ∙ ap (λ (z : Trace). z.list) stop in
+        let st : L levels ≡ L h ++ A = ap (λ (z : Trace). z.list) (trace_stays V x o es ps (suc h) levels (omega (arith, w.below)) nw) ∙ ap (λ (z : Trace). z.list) stop in
         let over : (k : ℕ) → suc h ≤ k → (trace V x o es ps k).whole ≡ true → ⊥ = λ k le w. true_false (sym w ∙ (ap (λ (t : Trace). t.whole) (trace_stays V x o es ps (suc h) k le nw) ∙ nw)) in (
           record {
-            entries = λ k lk w. elim (cases_lt k (suc h)) [ inl a ↦ rw pe (entries_on ent e le k (omega arith)) | inr b ↦ absurd (over k b w) ];
-            follows = λ k lk w. elim (cases_lt k (suc h)) [ inl a ↦ rw pn (follows_on n m2 nx ln k (omega arith)) | inr b ↦ absurd (over k b w) ];
+            entries = λ k lk y. elim (cases_lt k (suc h)) [ inl a ↦ sym (entry_at p refl) ∙ rw is (entries_on ent n w.made (omega (arith, w.below, w.deep)) k (omega arith)) | inr b ↦ absurd (over k b y) ];
+            follows = λ k lk y. elim (cases_lt k (suc h)) [ inl a ↦ (λ z. sym (follower_at p refl) ∙ rw is (follows_on k (omega arith) z)) | inr b ↦ absurd (over k b y) ];
           },
-          subst (λ (z : List ℕ). Fetches m z None m2) (sym st) (asked_on None m2 nx.1),
+          subst (λ (z : List ℕ). Fetches m z None m2) (sym st) (asked_on None m2 w.next.1),
         )
       where
         true_false : true ≡ false → ⊥
         true_false z = let y : ◌≡◌ {A = ℕ} 0 1 = cc in omega arith
 
-    pub going_miss : (q : Missing) (m2 : Meaning) (res : Result Plan Missing) → IsErrAnd res (λ e. e ≡ q) → Next (Err q) m2 → Plans keep m x o es ps levels res m2
-    going_miss q m2 res is nx =
-        let f = trace_asks V x o es ps h levels (omega arith) go.whole in
-        passed_on keep m x o es ps levels q m2 res is (subst (λ (z : List ℕ). Fetches m z (Some q.number) m2) (sym f.1) (fetches_stop m m2 (L h ++ A) f.0 q.number (asked_on (Some q.number) m2 nx)))
-
-    pub going_lost : (ent n : Entry) (q : Missing) (m2 m3 : Meaning) (r2 : ℕ) (key2 : List ℕ) (res : Result Plan Missing) → IsErrAnd res (λ e. e ≡ q) → Made ent → get_or ps h 0 ≤ length (es h) → 7 ≤ length (es h)
-        → Next (Ok n) m2 → r2 ≡ (next_carry (written ent n)).number → Refilled m2 x r2 (Err q) m3 key2 → Plans keep m x o es ps levels res m3
-    going_lost ent n q m2 m3 r2 key2 res is e pl full nx re rf =
-        let f = trace_front V x o es ps (suc h) levels (omega arith) in
-        passed_on keep m x o es ps levels q m3 res is (subst (λ (z : List ℕ). Fetches m z (Some q.number) m3) (sym f.1) (fetches_stop m m3 (L (suc h)) f.0 q.number (lifted_on ent n m2 m3 r2 (Some q.number) e pl full nx re rf)))
+    pub going_lost : {q : Missing} {m3 : Meaning} {r2 : ℕ} (key2 : List ℕ) (res : Result Plan Missing) → 7 ≤ nd.count → length nd.entries ≡ 7 → r2 ≡ (next_carry written).number → Refilled m2 x r2 (Err q) m3 key2
+        → IsErrAnd res (λ e. e ≡ q) → Plans keep m x o es ps levels res m3
+    going_lost {q} {m3} {r2} key2 res full long re rf is =
+        let f = trace_front V x o es ps (suc h) levels (omega (arith, w.below)) in
+        passed_up (λ (z : Result Plan Missing). Plans keep m x o es ps levels z m3) res q is (subst (λ (z : List ℕ). Fetches m z (Some q.number) m3) (sym f.1) (fetches_stop m m3 (L (suc h)) f.0 q.number (lifted_on m3 r2 (Some q.number) full long re rf)))

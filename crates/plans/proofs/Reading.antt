@@ -1,9 +1,10 @@
 -- Reads up to the first record that is missing.
-use Rattle.std.proofs.Common.{◌≡◌, ℕ, ◌+◌, ◌%◌, ◌^◌, ◌<◌, ◌≤◌, Bool, true, false, cond, ltb, List, [], ◌∷◌, ◌++◌, length, Some, None, Option, sym, refl, ap, ◌∙◌, arith}
+use Rattle.std.proofs.Common.{◌≡◌, ℕ, ◌+◌, ◌^◌, ◌<◌, ◌≤◌, Bool, true, false, cond, ltb, List, [], ◌∷◌, ◌++◌, length, Some, None, Option, sym, refl, ap, ◌∙◌, arith}
 use Rattle.std.specs.List.{AllByRecursion}
 use Rattle.std.proofs.lemmas.List.{length-append}
 use Rattle.std.proofs.lemmas.Bool.Decides.{nat_tests}
 use Rattle.plans.specs.Reads.{EndsAtTheMissing, Fetches, Reads, ReadsAll, reads_until, with_first}
+use Rattle.store.proofs.Fetching.{more_reads, no_reads}
 use Rattle.store.specs.Meaning.{Meaning, after_reads}
 
 held : (r n : ℕ) → r < n → ltb r n ≡ true
@@ -71,18 +72,6 @@ reads_all n rs = (none_missing n rs, λ p. ap (λ (u : Reads). u.missing) (read_
 
 pub ends_at_the_missing : EndsAtTheMissing
 ends_at_the_missing n rs q = (parts_at n rs q, λ p. ap (λ (zs : List ℕ). (reads_until n zs).missing) p.1.0 ∙ ap (λ (u : Reads). u.missing) (first_missing n (reads_until n rs).before q p.0 p.1.1.0 p.1.1.1))
-
--- the tally
-tallied : Meaning → ℕ → Meaning
-tallied m t = record { width = m.width; keys = m.keys; capacity = m.capacity; tally = t }
-
-pub no_reads : (m : Meaning) → m.tally < 2 ^ 32 → m ≡ after_reads 0 m
-unfolding tallied
-no_reads m h = let e : m.tally ≡ (m.tally + 0) % 2 ^ 32 = omega arith in ap (tallied m) e
-
-pub more_reads : (m : Meaning) (n k : ℕ) → after_reads k (after_reads n m) ≡ after_reads (n + k) m
-unfolding tallied
-more_reads m n k = let e : ((m.tally + n) % 2 ^ 32 + k) % 2 ^ 32 ≡ (m.tally + (n + k)) % 2 ^ 32 = omega arith in ap (tallied m) e
 
 pub fetches_none : (m : Meaning) → m.tally < 2 ^ 32 → Fetches m [] None m
 fetches_none m h = record { ends = refl; reads = no_reads m h }

@@ -1,9 +1,8 @@
 -- The steps of a plan at one node.
-use Rattle.std.proofs.Common.{◌≡◌, ℕ, zero, suc, ◌*◌, ◌^◌, ◌<◌, ◌≤◌, min, Bool, true, false, cond, not, eqb, leb, List, [], ◌∷◌, map, length, get_or, take, fold, Some, None, Ok, Err, Option, Result, subst, sym, refl, ap, ◌∙◌, arith, length-take}
+use Rattle.std.proofs.Common.{◌≡◌, ℕ, zero, suc, ◌*◌, ◌^◌, ◌<◌, ◌≤◌, min, Bool, true, false, cond, eqb, List, [], ◌∷◌, map, length, get_or, fold, Some, None, Ok, Err, Option, sym, refl, ap, ◌∙◌, arith}
 use Rattle.std.proofs.lemmas.Bool.Decides.{nat_tests}
 use Rattle.std.specs.List.{reduce}
 use Rattle.std.specs.Option.{MatchOption, unwrap_or}
-use Rattle.std.specs.Result.{IsErrAnd}
 use Rattle.growth.proofs.Following.{gap_at, gap_back}
 use Rattle.growth.specs.Growth.{asked, least}
 use Rattle.keys.proofs.Offsets.{gap_none}
@@ -19,28 +18,11 @@ use Rattle.nodes.specs.declared.node.Entry.{Entry}
 use Rattle.plans.proofs.Reading.{fetches_lost, fetches_none, fetches_one}
 use Rattle.plans.specs.Steps.{Nexted}
 use Rattle.search.specs.TreeLaw.{view_of}
-use Rattle.store.specs.Grounds.{first_ground}
-use Rattle.store.specs.Meaning.{Meaning, after_reads, fetch_grounds, key_of}
-use Rattle.store.specs.declared.reading.Missing.{Missing}
-use Rattle.store.specs.declared.refusal.Refusal.{Refusal}
-use Rattle.store.specs.declared.refusal.Refusal.TheVariants.{KeyLength, NotHeld}
+use Rattle.store.specs.Meaning.{Meaning, after_reads, key_of}
 
 -- a key against itself has its first gap past the last place
 pub gap_same : (n : ℕ) (a b : List ℕ) → a ≡ b → n ≡ first_gap_of n 0 (bits a) (bits b)
 gap_same n a b e = let g = gap_none n 0 (bits a) (bits b) (λ j lo hi. ap (λ (k : List ℕ). bits k j) e) in omega arith
-
--- a buffer's front part is as long as the key
-pub buffer_long : (k w : ℕ) (xs : List ℕ) → k ≤ length xs → k ≡ w → length (take k xs) ≡ w
-buffer_long k w xs le e = simp length-take (omega arith)
-
--- A fetch into a buffer of the right length is refused only for a record that the store lacks.
-pub fetch_refused : (m : Meaning) (r : ℕ) (n : ℕ) (e : Refusal) → n ≡ m.width → first_ground (fetch_grounds m r n) ≡ Some e → length m.keys ≤ r
-fetch_refused m r n e w h = go (eqb n m.width) (leb (length m.keys) r) (grind (arith, nat_tests)) refl h
-  where
-    go : (a b : Bool) → a ≡ true → leb (length m.keys) r ≡ b → cond (not a) (Some KeyLength) (cond b (Some NotHeld) None) ≡ Some e → length m.keys ≤ r
-    go true true t k g = grind (arith, nat_tests)
-    go true false t k g = absurd (let z : ◌≡◌ {A = ℕ} 0 1 = cc in omega arith)
-    go false b t k g = absurd (let z : ◌≡◌ {A = ℕ} 0 1 = cc in omega arith)
 
 -- an entry made of a record's key is the record's
 pub entry-made : (keep : ℕ) (m : Meaning) (q d : ℕ) (key : List ℕ) (n : Entry) → key ≡ key_of m q → length key ≡ m.width → n ≡ record { number = q; partial = partial_of keep key d } → n ≡ made (view_of keep m) q d
@@ -96,11 +78,6 @@ module _ (keep : ℕ) (m : Meaning) (r o i : ℕ) (es : List Entry) where
 
   pub nexted_lost : (e : Entry) (m' : Meaning) → m.tally < 2 ^ 32 → i < length es → e ≡ get_or es i no_entry → e.partial.offset ≡ o → length m.keys ≤ e.number → m' ≡ m → Nexted keep m r o i es (Err (record { number = e.number })) m'
   nexted_lost e m' f lt is same none sm = let a = its e lt is same in rw a (fetches_lost m e.number m' f none sm)
-
--- a missing record passed up
-pub nexted_up : (keep : ℕ) (m : Meaning) (r o i : ℕ) (es : List Entry) (m' : Meaning) (res : Result Entry Missing) (q : Missing) → IsErrAnd res (λ e. e ≡ q) → Nexted keep m r o i es (Err q) m' → Nexted keep m r o i es res m'
-nexted_up keep m r o i es m' (Ok n) q is h = absurd is
-nexted_up keep m r o i es m' (Err e) q is h = subst (λ (z : Missing). Nexted keep m r o i es (Err z) m') (sym is) h
 
 -- the least offset, as the code picks it
 fold_min : (a : ℕ) (e : Entry) (es : List Entry) → fold min a (map (λ (e : Entry). e.partial.offset) (e ∷ es)) ≡ min a (least (e ∷ es))

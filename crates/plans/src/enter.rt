@@ -4,22 +4,14 @@ ghost use Rattle.growth.specs.Paths.{nodes_of, places_of};
 ghost use Rattle.growth.specs.Routes.{Trail};
 ghost use Rattle.plans.specs.Entries.{Enters};
 ghost use Rattle.plans.specs.Planning.{ItsKey};
-ghost use Rattle.store.specs.declared.refusal.Refusal.TheVariants.{PartialKeyMissing};
 
 use crate::plan::{Entering, make_plan};
 use growth::commit::{Top, commit};
 use growth::need::need_nodes;
 use growth::path::Waypoint;
 use nodes::node::Node;
-use store::reading::{Missing, ReadingStore};
+use store::reading::ReadingStore;
 use store::refusal::Refusal;
-
-// What an entry answers where the store lacks a record that it is to read.
-fn refused(missing: Missing) -> Refusal
-    ensures { result ≡ PartialKeyMissing missing.number }
-{
-    Refusal::PartialKeyMissing(missing.number)
-}
 
 /// Enters a record at the end of a path. Refused where fewer nodes are unused than needed, and then where the store lacks a
 /// record that the entry is to read; nothing is written before that.
@@ -42,6 +34,7 @@ pub fn enter_at<S: ReadingStore>(
     if wanted > u32::from(entering.limit) {
         return Err(Refusal::NodesSpent);
     }
-    let plan = make_plan(table, path, entering, store).map_err(refused)?;
+    let planned = make_plan(table, path, entering, store);
+    let plan = planned.map_err(|missing| Refusal::PartialKeyMissing(missing.number))?;
     Ok(commit(table, top, path, &plan))
 }

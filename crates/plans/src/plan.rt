@@ -17,6 +17,7 @@ use store::reading::{Missing, ReadingStore};
 
 /// What is entered: a record with its key, the offset of that to the key before its place, the shape of the index, and the nodes
 /// that may be in use.
+// Kept: that it is the key of its record is asked where it is used, since it is a fact of the store as well.
 #[derive(Clone, Copy)]
 pub struct Entering<'a> {
     pub number: u16,

@@ -9,15 +9,13 @@ ghost use Rattle.store.specs.Meaning.{key_of};
 use crate::entry::{entry_at, first_gap};
 use crate::plan::Entering;
 use growth::shift::shift_in;
+use growth::split::MOVES_UP;
 use keys::key::WIDEST;
 use nodes::node::Entry;
 use nodes::shape::Shape;
 use nodes::table::NO_ENTRY;
 use search::neighbour::Neighbour;
 use store::reading::{Missing, ReadingStore};
-
-// The place of the record that moves up.
-const MOVES_UP: usize = 4;
 
 /// The entry at a place of a node, as it is once what comes up stands before it, `key` the key of that; or its record, if it is
 /// to be fetched and the store lacks it.

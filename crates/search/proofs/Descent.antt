@@ -4,6 +4,7 @@ use Rattle.std.proofs.lemmas.List.{get_or-map, length-map}
 use Rattle.std.specs.List.{AllByRecursion}
 use Rattle.keys.specs.Digits.{Above, Agree, Below, Digits}
 use Rattle.keys.specs.declared.comparison.Comparison.{Comparison}
+use Rattle.nodes.proofs.Weaves.{woven_kid}
 use Rattle.nodes.specs.declared.node.Entry.{Entry}
 use Rattle.nodes.specs.Faith.{Ceiling, Faithful, View}
 use Rattle.nodes.specs.Trees.{Tree, bare, no_entry, records, weave}
@@ -20,7 +21,7 @@ use Rattle.search.specs.declared.place.Step.{Step}
 use Rattle.search.specs.declared.place.Step.TheVariants.{Ask, Known}
 use Rattle.search.proofs.Ladder.{ladder, ladder_key, strung_kid, strung_long, strung_node}
 use Rattle.search.proofs.NodeRight.{look_right}
-use Rattle.search.proofs.Weaves.{Cut, StartsAbove, cut, first_of-append, joined, last_of-append, starts_append, top, top_append, within, woven_entry, woven_kid}
+use Rattle.search.proofs.Weaves.{Cut, StartsAbove, cut, first_of-append, joined, last_of-append, starts_append, top, top_append, within, woven_entry}
 
 -- the list parts before s, between the records that the answer names
 pub record Gap (v : View) (s : Digits) (xs : List ℕ) (base : Digits) (b a : Option ℕ) (below : Option Neighbour) (above : Option ℕ) : Type 0 where

@@ -3,11 +3,11 @@ use Rattle.std.proofs.Common.{◌≡◌, ℕ, zero, suc, ◌<◌, List, [], ◌�
 use Rattle.std.specs.List.{AllByRecursion}
 use Rattle.keys.specs.Digits.{Above, Digits}
 use Rattle.keys.specs.Partials.{partial_at}
+use Rattle.nodes.proofs.Weaves.{all_back, all_front}
 use Rattle.nodes.specs.declared.node.Entry.{Entry}
 use Rattle.nodes.specs.Faith.{Ceiling, Faithful, Strung, TrueOver, View, under}
 use Rattle.nodes.specs.Trees.{Tree, records, weave}
 use Rattle.search.specs.TreeLaw.{Grows}
-use Rattle.search.proofs.Weaves.{all_back, all_front}
 
 module _ (v w : View) (n : ℕ) (last : w.last ≡ v.last) (keep : w.keep ≡ v.keep) (same : (r : ℕ) → r < n → w.key r ≡ v.key r) where
   entry_grows : (base : Digits) (e : Entry) → e.number < n → TrueOver v base e → TrueOver w base e

@@ -1,12 +1,12 @@
 -- Over any store, an answer names a record of the tree, or two neighbours in it.
-use Rattle.std.proofs.Common.{◌≡◌, ℕ, zero, suc, ◌+◌, ◌<◌, ◌≤◌, Bool, true, eqb, leb, List, [], ◌∷◌, ◌++◌, map, length, get_or, Some, None, Option, sym, refl, ap, ◌∙◌, subst, append_assoc, arith}
+use Rattle.std.proofs.Common.{◌≡◌, ℕ, zero, suc, ◌+◌, ◌<◌, ◌≤◌, true, List, [], ◌∷◌, ◌++◌, map, length, get_or, Some, None, Option, sym, refl, ap, ◌∙◌, subst, append_assoc, arith}
 use Rattle.std.proofs.lemmas.List.{append-nil, get_or-map, length-map}
-use Rattle.std.proofs.lemmas.Bool.{and_parts, eqb-true}
 use Rattle.keys.specs.Digits.{Digits, floor}
 use Rattle.keys.specs.declared.comparison.Comparison.{Comparison}
+use Rattle.nodes.proofs.Shapes.{kid_shaped, knot_parts}
 use Rattle.nodes.specs.declared.node.Entry.{Entry}
 use Rattle.nodes.specs.Faith.{View}
-use Rattle.nodes.specs.Trees.{Tree, all, bare, no_entry, records, shaped, weave}
+use Rattle.nodes.specs.Trees.{Tree, bare, no_entry, records, shaped, weave}
 use Rattle.search.specs.Names.{Names, StandsIn, first_of, last_of}
 use Rattle.search.specs.NodeLaw.{InNode, StepInNode}
 use Rattle.search.specs.Parts.{parts_of}
@@ -20,22 +20,6 @@ use Rattle.search.specs.declared.place.Step.{Step}
 use Rattle.search.specs.declared.place.Step.TheVariants.{Ask, Known}
 use Rattle.search.proofs.Bounds.{looked_within, settled_within}
 use Rattle.search.proofs.Weaves.{Cut, cut, first_of-append, joined, last_of-append, within}
-
--- a lawful node has one kid more than entries, and lawful kids
-all_at : {X : Type 0} (f : X → Bool) (xs : List X) (d : X) (i : ℕ) → i < length xs → all f xs ≡ true → f (get_or xs i d) ≡ true
-all_at f [] d i l h = absurd (omega arith)
-all_at f (x ∷ xs) d zero l h = (and_parts (f x) (all f xs) h).0
-all_at f (x ∷ xs) d (suc i) l h = all_at f xs d i (omega arith) (and_parts (f x) (all f xs) h).1
-
-module _ (l least : ℕ) (t : Tree (suc l)) (h : shaped (suc l) least t ≡ true) where
-  rests : (eqb (length t.kids) (length t.entries + 1) ≡ true) × (all (shaped l 3) t.kids ≡ true)
-  rests = and_parts _ _ (and_parts (leb (length t.entries) 7) _ (and_parts (leb least (length t.entries)) _ h).1).1
-
-  one_more : length t.kids ≡ length t.entries + 1
-  one_more = eqb-true (length t.kids) (length t.entries + 1) rests.0
-
-  kid_shaped : (i : ℕ) → i ≤ length t.entries → shaped l 3 (get_or t.kids i (bare l)) ≡ true
-  kid_shaped i le = all_at (shaped l 3) t.kids (bare l) i (omega (arith, one_more)) rests.1
 
 -- a view for lists without keys
 blank : View
@@ -60,7 +44,7 @@ module _ (s : Digits) (fetch : ℕ → Option Comparison) where
 
   module _ (l : ℕ) (ih : Own l) (least : ℕ) (t : Tree (suc l)) (b a : Option ℕ) (h : shaped (suc l) least t ≡ true) where
     long : length (map (records l) t.kids) ≡ length t.entries + 1
-    long = length-map t.kids (records l) ∙ one_more l least t h
+    long = length-map t.kids (records l) ∙ (knot_parts l least t h).many
 
     at_entry : (i : ℕ) → i < length t.entries → StandsIn (records (suc l) t) (get_or t.entries i no_entry).number
     at_entry i lt = let w = within i t.entries (map (records l) t.kids) long lt in record { before = w.before; after = w.after; whole = w.whole }
@@ -71,9 +55,9 @@ module _ (s : Digits) (fetch : ℕ → Option Comparison) where
         let es = t.entries in
         let fs = map (records l) t.kids in
         let kid = get_or t.kids q (bare l) in
-        let e : get_or fs q [] ≡ records l kid = get_or-map (records l) t.kids q (bare l) [] (omega (arith, one_more l least t h)) in
+        let e : get_or fs q [] ≡ records l kid = get_or-map (records l) t.kids q (bare l) [] (omega (arith, (knot_parts l least t h).many)) in
         lift b a q es fs (cut blank floor q es fs long le) (seek s fetch l kid (under_at q b es) o (over_at q es a)).end
-        (subst (λ zs. Names zs (under_at q b es) (over_at q es a) (seek s fetch l kid (under_at q b es) o (over_at q es a)).end) (sym e) (ih 3 kid (under_at q b es) o (over_at q es a) (kid_shaped l least t h q le)))
+        (subst (λ zs. Names zs (under_at q b es) (over_at q es a) (seek s fetch l kid (under_at q b es) o (over_at q es a)).end) (sym e) (ih 3 kid (under_at q b es) o (over_at q es a) (kid_shaped (knot_parts l least t h) q le)))
 
     answered_own : (high i : ℕ) → i < high → high ≤ length t.entries → (y : Option Comparison) →
         Names (records (suc l) t) b a (answered (λ x. onward (seek s fetch l) (bare l) t.entries t.kids b a (settled (parts_of t.entries) high i x)) (get_or t.entries i no_entry).number y).end
@@ -98,7 +82,7 @@ module _ (s : Digits) (fetch : ℕ → Option Comparison) where
 
   module _ (l : ℕ) (ih : Ends l) (least : ℕ) (t : Tree (suc l)) (h : shaped (suc l) least t ≡ true) where
     more : length (map (records l) t.kids) ≡ length t.entries + 1
-    more = length-map t.kids (records l) ∙ one_more l least t h
+    more = length-map t.kids (records l) ∙ (knot_parts l least t h).many
 
     onward_ends : (x : Placement) → InNode (length t.entries) x →
         (before : List ℕ) × (records (suc l) t ≡ before ++ rest_onward (rest s fetch l) (records l) (bare l) t.entries t.kids x)
@@ -109,8 +93,8 @@ module _ (s : Digits) (fetch : ℕ → Option Comparison) where
     onward_ends (Place q o) le =
         let fs = map (records l) t.kids in
         let kid = get_or t.kids q (bare l) in
-        let e : get_or fs q [] ≡ records l kid = get_or-map (records l) t.kids q (bare l) [] (omega (arith, one_more l least t h)) in
-        let r = ih 3 kid o (kid_shaped l least t h q le) in
+        let e : get_or fs q [] ≡ records l kid = get_or-map (records l) t.kids q (bare l) [] (omega (arith, (knot_parts l least t h).many)) in
+        let r = ih 3 kid o (kid_shaped (knot_parts l least t h) q le) in
         let c = cut blank floor q t.entries fs more le in
         (c.before ++ r.0, joined blank floor q t.entries fs c r.0 (rest s fetch l kid o) (e ∙ r.1) ∙ ap (λ zs. (c.before ++ r.0) ++ (rest s fetch l kid o ++ zs)) c.tail)
 

@@ -4,6 +4,7 @@ use Rattle.std.proofs.lemmas.List.{get_or-map, length-map}
 use Rattle.std.specs.List.{AllByRecursion}
 use Rattle.keys.specs.Digits.{Above, Agree, Below, Digits, floor}
 use Rattle.keys.specs.declared.comparison.Comparison.{Comparison}
+use Rattle.nodes.proofs.Weaves.{woven_kid}
 use Rattle.nodes.specs.declared.node.Entry.{Entry}
 use Rattle.nodes.specs.Faith.{Ceiling, Faithful, View, free}
 use Rattle.nodes.specs.Trees.{Tree, bare, no_entry, records, weave}
@@ -22,7 +23,7 @@ use Rattle.search.proofs.Ladder.{ladder, ladder_key, strung_kid, strung_long, st
 use Rattle.search.proofs.NodeRight.{look_right}
 use Rattle.search.proofs.Plainly.{drops, equal, over_floor, remain}
 use Rattle.search.proofs.Rising.{AllAbove, Rising, faithful_rising, greater_all, greater_from, rising_drop, smaller_all}
-use Rattle.search.proofs.Weaves.{Cut, StartsAbove, cut, joined, starts_append, top, top_append, woven_entry, woven_kid}
+use Rattle.search.proofs.Weaves.{Cut, StartsAbove, cut, joined, starts_append, top, top_append, woven_entry}
 
 -- ys begins with a record whose key is s
 abbrev BeginsWith : View → (N : ℕ) → Digits → List ℕ → Type 0

@@ -3,6 +3,7 @@ use Rattle.std.proofs.Common.{◌≡◌, ℕ, zero, suc, ◌+◌, ◌<◌, ◌�
 use Rattle.std.proofs.lemmas.List.{append-nil}
 use Rattle.std.specs.List.{AllByRecursion}
 use Rattle.keys.specs.Digits.{Below, Digits}
+use Rattle.nodes.proofs.Weaves.{all_back}
 use Rattle.nodes.specs.declared.node.Entry.{Entry}
 use Rattle.nodes.specs.Faith.{View}
 use Rattle.nodes.specs.Trees.{no_entry, weave}
@@ -88,25 +89,10 @@ within (suc c) (x ∷ es) (f ∷ fs) e l =
       whole = ap (λ zs. f ++ (x.number ∷ zs)) r.whole ∙ sym (append_assoc f (x.number ∷ r.before) ((get_or es c no_entry).number ∷ r.after));
     }
 
--- what holds of a woven list holds of its parts
+-- what holds of a woven list holds of its entries
 module _ (P : ℕ → Type 0) where
-  pub all_front : (xs ys : List ℕ) → AllByRecursion P (xs ++ ys) → AllByRecursion P xs
-  all_front [] ys h = tt
-  all_front (x ∷ xs) ys h = (h.0, all_front xs ys h.1)
-
-  pub all_back : (xs ys : List ℕ) → AllByRecursion P (xs ++ ys) → AllByRecursion P ys
-  all_back [] ys h = h
-  all_back (x ∷ xs) ys h = all_back xs ys h.1
-
   pub woven_entry : (c : ℕ) (es : List Entry) (fs : List (List ℕ)) → length fs ≡ length es + 1 → c < length es → AllByRecursion P (weave es fs) → P (get_or es c no_entry).number
   woven_entry c [] fs e l h = absurd (omega arith)
   woven_entry c (x ∷ es) [] e l h = absurd (omega arith)
-  woven_entry zero (x ∷ es) (f ∷ fs) e l h = (all_back f (x.number ∷ weave es fs) h).0
-  woven_entry (suc c) (x ∷ es) (f ∷ fs) e l h = woven_entry c es fs (omega arith) (omega arith) (all_back f (x.number ∷ weave es fs) h).1
-
-  pub woven_kid : (q : ℕ) (es : List Entry) (fs : List (List ℕ)) → length fs ≡ length es + 1 → q ≤ length es → AllByRecursion P (weave es fs) → AllByRecursion P (get_or fs q [])
-  woven_kid q es [] e l h = absurd (omega arith)
-  woven_kid zero [] (f ∷ fs) e l h = h
-  woven_kid (suc q) [] (f ∷ fs) e l h = absurd (omega arith)
-  woven_kid zero (x ∷ es) (f ∷ fs) e l h = all_front f (x.number ∷ weave es fs) h
-  woven_kid (suc q) (x ∷ es) (f ∷ fs) e l h = woven_kid q es fs (omega arith) (omega arith) (all_back f (x.number ∷ weave es fs) h).1
+  woven_entry zero (x ∷ es) (f ∷ fs) e l h = (all_back P f (x.number ∷ weave es fs) h).0
+  woven_entry (suc c) (x ∷ es) (f ∷ fs) e l h = woven_entry c es fs (omega arith) (omega arith) (all_back P f (x.number ∷ weave es fs) h).1

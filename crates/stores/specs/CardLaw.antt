@@ -14,7 +14,7 @@ ends_within w n c r h l =
     let q : r + 1 ≤ n / w = omega arith in
     omega (arith, mul-le-mul_right w q, div-mul-le_self n w, add-mul r 1 w)
 
-length-key_at : (w : ℕ) (bytes : List ℕ) (r : ℕ) → r * w + w ≤ length bytes → length (key_at w bytes r) ≡ w
+pub length-key_at : (w : ℕ) (bytes : List ℕ) (r : ℕ) → r * w + w ≤ length bytes → length (key_at w bytes r) ≡ w
 length-key_at w bytes r h = length-take-le w (drop (r * w) bytes) (omega (arith, length-drop (r * w) bytes))
 
 pub length_keys : (w : ℕ) (bytes : List ℕ) (n : ℕ) → length (keys_of w bytes n) ≡ n

@@ -61,6 +61,7 @@ impl Card {
     }
 }
 
+// Kept: each method says what it means by the definition itself, beside what the trait says of it.
 impl ReadingStore for Card {
     ghost meaning = { λ c. card_of c.width c.bytes.items c.count c.tally };
 

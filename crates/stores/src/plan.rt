@@ -33,6 +33,7 @@ impl Plan {
     }
 }
 
+// Kept: each method says what it means by the definition itself, beside what the trait says of it.
 impl ReadingStore for Plan {
     ghost meaning = { λ p. plan_of p.classes p.tally };
 

@@ -13,7 +13,7 @@ pub(crate) struct Table {
 }
 
 impl Table {
-    // Kept: one row is lent through the whole table, so that a key is written where it stays.
+    // Kept: it is a rule of this project that a changed row is one of its table, lent through `&mut self`.
     /// Lends a row to change.
     pub(crate) fn row(&mut self, number: usize) -> &mut Row
         requires { number < vec_len self.old.rows }

@@ -1,4 +1,6 @@
+use keys::comparison::Comparison;
 use keys::partial::PartialKey;
+use search::place::Placement;
 use std::fmt;
 
 /// Bytes in hexadecimal.
@@ -14,21 +16,51 @@ impl fmt::Display for Hex<'_> {
     }
 }
 
-/// The bits that a partial key keeps, one by one.
+/// A partial key: its offset, and the bits that it keeps, one by one.
 #[derive(Clone, Copy)]
 pub struct Kept(pub PartialKey);
 
 impl fmt::Display for Kept {
     fn fmt<W: fmt::Write>(&self, f: &mut fmt::Formatter<W>) -> fmt::Result {
-        let PartialKey { length, bits, .. } = self.0;
+        let PartialKey {
+            offset,
+            length,
+            bits,
+        } = self.0;
         if length == 0 {
-            return write!(f, "no bits");
+            return write!(f, "offset {offset}, then no bits");
         }
-        for i in 0..length {
-            let after = u32::from(length - 1 - i);
-            let bit = bits.checked_shr(after).unwrap_or(0) & 1;
-            write!(f, "{bit}")?;
+        let width = usize::from(length);
+        write!(f, "offset {offset}, then {bits:0width$b}")
+    }
+}
+
+/// How a sought key stands to the one fetched.
+#[derive(Clone, Copy)]
+pub struct Compared(pub Comparison);
+
+impl fmt::Display for Compared {
+    fn fmt<W: fmt::Write>(&self, f: &mut fmt::Formatter<W>) -> fmt::Result {
+        match self.0 {
+            Comparison::Equal => write!(f, "equal"),
+            Comparison::Greater(offset) => write!(f, "it is greater, at offset {offset}"),
+            Comparison::Less(offset) => write!(f, "it is less, at offset {offset}"),
         }
-        Ok(())
+    }
+}
+
+/// Where a sought key stands in a node.
+#[derive(Clone, Copy)]
+pub struct Placed(pub Placement);
+
+impl fmt::Display for Placed {
+    fn fmt<W: fmt::Write>(&self, f: &mut fmt::Formatter<W>) -> fmt::Result {
+        match self.0 {
+            Placement::Found(place) => write!(f, "found at place {place}"),
+            Placement::Place { place, offset } => write!(
+                f,
+                "it belongs before place {place}, at offset {offset} to the key under it"
+            ),
+        }
     }
 }

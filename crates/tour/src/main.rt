@@ -5,6 +5,7 @@
 mod forms;
 mod labels;
 mod node_search;
+mod parting;
 mod refused;
 mod shown;
 

@@ -10,7 +10,7 @@ use store::refusal::Refusal;
 use stores::plan::Plan;
 
 fn print_outcome<T: Drop>(
-    rt: &HostRuntime,
+    rt: &impl Print,
     what: &str,
     outcome: Result<T, Refusal>,
 ) -> io::Result<()> {
@@ -24,11 +24,11 @@ fn print_outcome<T: Drop>(
 }
 
 /// Calls that are refused, and what they leave.
-pub fn print_refusals(rt: &HostRuntime) -> io::Result<()> {
+pub fn print_refusals(rt: &impl Print) -> io::Result<()> {
     println!(rt; "Refusals, which change nothing:")?;
     let mut plan = Plan::new(1);
     let mut key = [7; 3];
-    print_outcome(rt, "a fetch into 2 bytes", plan.fetch(0, &mut key[0..2]))?;
+    print_outcome(rt, "a fetch into 2 bytes", plan.fetch(0, &mut key[..2]))?;
     print_outcome(rt, "a fetch of record 24 of 24", plan.fetch(24, &mut key))?;
     let held = Hex(&key);
     let tally = plan.tally();

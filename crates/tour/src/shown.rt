@@ -8,18 +8,13 @@ use stores::plan::Plan;
 const RECORDS: [u16; 3] = [0, 23, 47];
 
 // Fetches some records, and tells the tally after each.
-fn print_fetches<S: ReadingStore>(rt: &HostRuntime, store: &mut S) -> io::Result<()> {
+fn print_fetches<S: ReadingStore>(rt: &impl Print, store: &mut S) -> io::Result<()> {
     for number in RECORDS {
         let mut key = [0; 3];
         match store.fetch(number, &mut key) {
-            Ok(()) => {
-                let shown = Hex(&key);
-                let tally = store.tally();
-                println!(rt; "  record {number}: {shown}, tally {tally}")?;
-            }
+            Ok(()) => println!(rt; "  record {number}: {}, tally {}", Hex(&key), store.tally())?,
             Err(refusal) => {
-                let ground = refusal.number();
-                println!(rt; "  record {number}: refused on ground {ground}")?;
+                println!(rt; "  record {number}: refused on ground {}", refusal.number())?
             }
         }
     }
@@ -27,7 +22,7 @@ fn print_fetches<S: ReadingStore>(rt: &HostRuntime, store: &mut S) -> io::Result
 }
 
 /// A plan of two classes, as it is, turned, and turned with the newest first.
-pub fn print_plan(rt: &HostRuntime) -> io::Result<()> {
+pub fn print_plan(rt: &impl Print) -> io::Result<()> {
     let mut plan = Plan::new(2);
     let (held, width) = (plan.held(), plan.width());
     println!(rt; "A plan of 2 classes, {held} records of {width} bytes (class, minute):")?;

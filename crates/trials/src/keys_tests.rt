@@ -2,6 +2,7 @@ use keys::comparison::{Comparison, compare};
 use keys::key::bit;
 use keys::partial::{PartialKey, partial_key};
 use keys::zeros::leading_zeros;
+use std::cmp::Ordering;
 
 #[test]
 fn table_corners_and_the_whole_table(rt: HostRuntime) {
@@ -10,7 +11,7 @@ fn table_corners_and_the_whole_table(rt: HostRuntime) {
     assert_eq!(rt; leading_zeros(128), 0);
     assert_eq!(rt; leading_zeros(255), 0);
     for byte in 0..=255u8 {
-        assert!(rt; leading_zeros(byte) as u32 == byte.leading_zeros());
+        assert_eq!(rt; u32::from(leading_zeros(byte)), byte.leading_zeros());
     }
 }
 
@@ -31,12 +32,10 @@ fn width_1_in_every_pair(rt: HostRuntime) {
     for x in 0..=255u8 {
         for y in 0..=255u8 {
             let offset = (x ^ y).leading_zeros() as u16 + 1;
-            let expected = if x == y {
-                Comparison::Equal
-            } else if x > y {
-                Comparison::Greater(offset)
-            } else {
-                Comparison::Less(offset)
+            let expected = match x.cmp(&y) {
+                Ordering::Equal => Comparison::Equal,
+                Ordering::Greater => Comparison::Greater(offset),
+                Ordering::Less => Comparison::Less(offset),
             };
             assert_eq!(rt; compare(&[x], &[y]), Some(expected));
         }
@@ -53,30 +52,18 @@ fn width_32_parted_at_bit_256_alone(rt: HostRuntime) {
     assert_eq!(rt; compare(&odd, &odd), Some(Comparison::Equal));
     assert_eq!(rt; Comparison::Less(256).offset(), Some(256));
     assert_eq!(rt; Comparison::Equal.offset(), None);
-    assert_eq!(rt;
-        partial_key(&odd, 256, 16),
-        Some(PartialKey {
-            offset: 256,
-            length: 0,
-            bits: 0,
-        })
-    );
-    assert_eq!(rt;
-        partial_key(&odd, 255, 16),
-        Some(PartialKey {
-            offset: 255,
-            length: 1,
-            bits: 1,
-        })
-    );
-    assert_eq!(rt;
-        partial_key(&odd, 240, 16),
-        Some(PartialKey {
-            offset: 240,
-            length: 16,
-            bits: 0xAAAB,
-        })
-    );
+    for (offset, length, bits) in [(256, 0, 0), (255, 1, 1), (240, 16, 0xAAAB)] {
+        let expected = PartialKey {
+            offset,
+            length,
+            bits,
+        };
+        assert_eq!(rt;
+            partial_key(&odd, offset, 16),
+            Some(expected),
+            "at {offset}"
+        );
+    }
 }
 
 #[test]
@@ -89,46 +76,24 @@ fn no_two_keys_of_one_width(rt: HostRuntime) {
 #[test]
 fn partial_keys_of_width_1(rt: HostRuntime) {
     // 0x60 is 0110 0000: after the 1 in front and bit 1, the bits 1, 1 and five zeros
-    assert_eq!(rt;
-        partial_key(&[0x60], 0, 2),
-        Some(PartialKey {
-            offset: 0,
-            length: 2,
-            bits: 0b01,
-        })
-    );
-    assert_eq!(rt;
-        partial_key(&[0x60], 2, 2),
-        Some(PartialKey {
-            offset: 2,
-            length: 2,
-            bits: 0b10,
-        })
-    );
-    assert_eq!(rt;
-        partial_key(&[0x60], 7, 2),
-        Some(PartialKey {
-            offset: 7,
-            length: 1,
-            bits: 0,
-        })
-    );
-    assert_eq!(rt;
-        partial_key(&[0x60], 8, 2),
-        Some(PartialKey {
-            offset: 8,
-            length: 0,
-            bits: 0,
-        })
-    );
-    assert_eq!(rt;
-        partial_key(&[0x60], 3, 0),
-        Some(PartialKey {
-            offset: 3,
-            length: 0,
-            bits: 0,
-        })
-    );
+    for (offset, l, length, bits) in [
+        (0, 2, 2, 0b01),
+        (2, 2, 2, 0b10),
+        (7, 2, 1, 0),
+        (8, 2, 0, 0),
+        (3, 0, 0, 0),
+    ] {
+        let expected = PartialKey {
+            offset,
+            length,
+            bits,
+        };
+        assert_eq!(rt;
+            partial_key(&[0x60], offset, l),
+            Some(expected),
+            "at {offset}"
+        );
+    }
     assert_eq!(rt; partial_key(&[0x60], 9, 2), None, "past the key");
     assert_eq!(rt; partial_key(&[0x60], 0, 17), None, "more than 16 bits");
     assert_eq!(rt; partial_key(&[], 0, 2), None, "no key");

@@ -8,43 +8,43 @@ use parts::tariff::tariff_key;
 use std::test::Fail;
 use store::refusal::Refusal;
 
-// From the first day to the last: both ends, and around zero.
-const DAYS: [i32; 5] = [i32::MIN, -1, 0, 1, i32::MAX];
+// Days and their keys, from the first to the last: both ends, and around zero.
+const DAYS: [(i32, [u8; 4]); 5] = [
+    (i32::MIN, [0, 0, 0, 0]),
+    (-1, [127, 255, 255, 255]),
+    (0, [128, 0, 0, 0]),
+    (1, [128, 0, 0, 1]),
+    (i32::MAX, [255, 255, 255, 255]),
+];
 
-fn day_key(number: i32) -> Result<[u8; 4], Refusal> {
-    let mut key = [0; 4];
-    write_key(&Day::from(number), &mut key)?;
+// The key of a part, written over other bytes.
+fn written<P: Part, const N: usize>(part: &P) -> Result<[u8; N], Refusal> {
+    let mut key = [9; N];
+    write_key(part, &mut key)?;
     Ok(key)
 }
 
 #[test]
-fn days_around_zero_and_at_both_ends(rt: HostRuntime) -> Result<(), Fail> {
-    assert_eq!(rt; day_key(i32::MIN), Ok([0, 0, 0, 0]));
-    assert_eq!(rt; day_key(-1), Ok([127, 255, 255, 255]));
-    assert_eq!(rt; day_key(0), Ok([128, 0, 0, 0]));
-    assert_eq!(rt; day_key(1), Ok([128, 0, 0, 1]));
-    assert_eq!(rt; day_key(i32::MAX), Ok([255, 255, 255, 255]));
-    for a in DAYS {
-        for b in DAYS {
-            let told = match compare(&day_key(a)?, &day_key(b)?) {
-                Some(Comparison::Greater(_)) => a > b,
-                Some(Comparison::Less(_)) => a < b,
-                Some(Comparison::Equal) => a == b,
+fn days_around_zero_and_at_both_ends(rt: HostRuntime) {
+    for (day, key) in DAYS {
+        assert_eq!(rt; written(&Day::from(day)), Ok(key), "day {day}");
+        for (other, other_key) in DAYS {
+            let told = match compare(&key, &other_key) {
+                Some(Comparison::Greater(_)) => day > other,
+                Some(Comparison::Less(_)) => day < other,
+                Some(Comparison::Equal) => day == other,
                 None => false,
             };
-            assert!(rt; told);
+            assert!(rt; told, "day {day} and day {other}");
         }
     }
-    Ok(())
 }
 
 #[test]
 fn minutes_and_their_range(rt: HostRuntime) -> Result<(), Fail> {
-    let mut key = [9; 2];
-    assert_eq!(rt; write_key(&Minute::try_from(1439)?, &mut key), Ok(()));
-    assert_eq!(rt; key, [5, 159]);
-    assert!(rt; matches!(Minute::try_from(1440), Err(Refusal::FieldRange)));
-    assert!(rt; matches!(Minute::try_from(65535), Err(Refusal::FieldRange)));
+    assert_eq!(rt; written(&Minute::try_from(1439)?), Ok([5, 159]));
+    assert_eq!(rt; Minute::try_from(1440), Err(Refusal::FieldRange));
+    assert_eq!(rt; Minute::try_from(65535), Err(Refusal::FieldRange));
     Ok(())
 }
 
@@ -76,9 +76,7 @@ fn pair_of_pairs(rt: HostRuntime) -> Result<(), Fail> {
             second: Class::from(4),
         },
     };
-    let mut key = [0; 8];
-    assert_eq!(rt; write_key(&outer, &mut key), Ok(()));
-    assert_eq!(rt; key, [1, 0, 2, 127, 255, 255, 255, 4]);
+    assert_eq!(rt; written(&outer), Ok([1, 0, 2, 127, 255, 255, 255, 4]));
     assert_eq!(rt;
         tariff_key(Class::from(2), Day::from(-1), Minute::try_from(1380)?),
         [2, 127, 255, 255, 255, 5, 100]
@@ -91,6 +89,10 @@ type Days2 = Pair<Day, Day>;
 type Days4 = Pair<Days2, Days2>;
 
 type Days8 = Pair<Days4, Days4>;
+
+type Wide = Pair<Days8, Class>;
+
+type Wider = Pair<Wide, Days8>;
 
 fn eight_days() -> Days8 {
     let two = Pair {
@@ -108,17 +110,17 @@ fn eight_days() -> Days8 {
 }
 
 #[test]
-fn pair_of_32_bytes(rt: HostRuntime) {
-    let mut key = [9; 32];
-    assert_eq!(rt; told_width(&eight_days()), 32);
-    assert_eq!(rt; write_key(&eight_days(), &mut key), Ok(()));
+fn pair_of_32_bytes(rt: HostRuntime) -> Result<(), Fail> {
+    assert_eq!(rt; Days8::width(), 32);
+    let key: [u8; 32] = written(&eight_days())?;
     assert_eq!(rt; key[0], 128);
     assert_eq!(rt; key[31], 255);
+    Ok(())
 }
 
 #[test]
 fn pair_of_33_bytes(rt: HostRuntime) {
-    let wide = Pair {
+    let wide: Wide = Pair {
         first: eight_days(),
         second: Class::from(1),
     };
@@ -126,15 +128,11 @@ fn pair_of_33_bytes(rt: HostRuntime) {
     assert_eq!(rt; write_key(&wide, &mut key), Err(Refusal::KeyLength));
     assert_eq!(rt; key[0], 9);
     assert_eq!(rt; key[32], 9);
-    let wider = Pair {
+    let wider: Wider = Pair {
         first: wide,
         second: eight_days(),
     };
     assert_eq!(rt; write_key(&wider, &mut key), Err(Refusal::KeyLength));
-    assert_eq!(rt; told_width(&wide), 33);
-    assert_eq!(rt; told_width(&wider), 33);
-}
-
-fn told_width<P: Part>(_part: &P) -> usize {
-    P::width()
+    assert_eq!(rt; Wide::width(), 33);
+    assert_eq!(rt; Wider::width(), 33);
 }

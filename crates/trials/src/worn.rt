@@ -19,6 +19,7 @@ impl Worn {
     }
 }
 
+// Kept: its own tests of a fetch, since those of the product's stores are inner to their crate.
 impl ReadingStore for Worn {
     ghost meaning = { λ s. worn_of s.tally };
 

@@ -5,4 +5,4 @@ use Rattle.growth.specs.Paths.{nodes_of}
 use Rattle.growth.specs.Routes.{way}
 
 abbrev pub invariant-loop-h : goal.invariant-loop-h
-invariant-loop-h l = record { nodes : (row_way (way l.table (nodes_of l.path)) l.h).nodes ≡ l.h; whole : (row_way (way l.table (nodes_of l.path)) l.h).whole ≡ true }
+invariant-loop-h l = row_way (way l.table (nodes_of l.path)) l.h ≡ record { nodes = l.h; whole = true }

@@ -1,11 +1,7 @@
-use Rattle.std.proofs.Common.{◌≡◌, length}
-use Rattle.growth.specs.Paths.{entries_of, followers_of, nodes_of, places_of}
+use Rattle.growth.specs.Paths.{nodes_of, places_of}
 use Rattle.growth.specs.Routes.{way}
 use Rattle.plans.proofs.Climbing.{Going}
 use Rattle.plans.proofs.plan.make_plan.Given as goal
 
 abbrev pub invariant-loop-h : goal.invariant-loop-h
-invariant-loop-h g l = record {
-  going : Going l.entering.shape.partial (g.S.ReadingStore.meaning l.initial.store) l.entering.number l.entering.offset (way l.table (nodes_of l.path)) (places_of l.path) l.h l.up.number l.up.offset l.key (entries_of l.plan) (followers_of l.plan) (g.S.ReadingStore.meaning l.store);
-  long : length l.plan.lines ≡ 8;
-}
+invariant-loop-h g l = Going l.entering.shape.partial (g.S.ReadingStore.meaning l.initial.store) l.entering.number l.entering.offset (way l.table (nodes_of l.path)) (places_of l.path) l.h l.up.number l.up.offset l.key l.plan.lines (g.S.ReadingStore.meaning l.store)

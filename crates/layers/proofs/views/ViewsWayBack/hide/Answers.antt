@@ -2,5 +2,5 @@ use Rattle.std.proofs.Common.{rules}
 use Rattle.layers.proofs.Viewing.{hidden_last}
 use Rattle.layers.proofs.views.ViewsWayBack.hide.Goals as goal
 
-pub loop-view-preserved : goal.loop-view-preserved
-loop-view-preserved c = search (rules, hidden_last)
+pub loop-last-preserved : goal.loop-last-preserved
+loop-last-preserved c = search (rules, hidden_last)
