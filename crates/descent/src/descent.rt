@@ -95,10 +95,11 @@ pub fn descend<S: ReadingStore>(
     let mut at = top.root;
     let (mut below, mut above) = (None, None);
     let mut descent = NOTHING_PASSED;
-    // Kept: `level` is the number of levels under a node before it is an index.
+    // Kept: a level counts the levels under a node and is told as `bottom`; the path is indexed by it only after that.
     for level in (0..top.levels).rev() {
         let n = node_at(table, at);
         let entries = &n.entries[..usize::from(n.count)];
+        // Kept: the waypoint is written in both arms, since each has its own place, and only one goes on.
         match look_through(entries, store, key, buffer, descent.offset)? {
             Placement::Found(c) => {
                 let place = c as u8;

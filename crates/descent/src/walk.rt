@@ -46,17 +46,7 @@ fn walk_below(table: &[Node], top: Top, list: &mut [u16], so_far: Walked) -> Wal
         return so_far;
     }
     let root = node_at(table, top.root).children[0];
-    let levels = top.levels - 1;
-    let walked = walk_below(
-        table,
-        Top {
-            levels,
-            root,
-            ..top
-        },
-        list,
-        so_far,
-    );
+    let walked = walk_below(table, top.under(root), list, so_far);
     walk_after(table, top, 0, list, walked)
 }
 
@@ -69,23 +59,13 @@ fn walk_after(table: &[Node], top: Top, place: u8, list: &mut [u16], so_far: Wal
     ensures { Adds (records_after table.now (top.levels - 1) top.root place) list.old so_far list.new result }
 {
     let n = node_at(table, top.root);
-    let levels = top.levels - 1;
     let (first, end) = (usize::from(place), usize::from(n.count));
     let entries = &n.entries[first..end];
     let children = &n.children[first + 1..=end];
     let mut walked = so_far;
     for (entry, &root) in entries.iter().zip(children) {
         walked = put_record(list, walked, entry.number);
-        walked = walk_below(
-            table,
-            Top {
-                levels,
-                root,
-                ..top
-            },
-            list,
-            walked,
-        );
+        walked = walk_below(table, top.under(root), list, walked);
     }
     walked
 }

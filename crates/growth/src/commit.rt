@@ -1,4 +1,4 @@
-ghost use Rattle.std.specs.Prelude.{◌≡◌, ◌+◌, ◌<◌, ◌≤◌, true, length, slice_index_or};
+ghost use Rattle.std.specs.Prelude.{◌≡◌, ◌+◌, ◌-◌, ◌<◌, ◌≤◌, true, length, slice_index_or};
 ghost use Rattle.growth.specs.Commits.{Committed, Entered, Once, Ready, tree_at};
 ghost use Rattle.growth.specs.Growth.{need, row};
 ghost use Rattle.growth.specs.Paths.{entries_of, followers_of, places_of};
@@ -19,6 +19,20 @@ pub struct Top {
     pub levels: u8,
     pub root: u16,
     pub used: u16,
+}
+
+impl Top {
+    /// The tree one level below, with its root at this node.
+    pub fn under(self, root: u16) -> Top
+        requires { 1 ≤ self.levels }
+        ensures { result ≡ record { levels = self.levels - 1; root = root; used = self.used } }
+    {
+        Top {
+            levels: self.levels - 1,
+            root,
+            ..self
+        }
+    }
 }
 
 /// What a plan written into a tree gives: the node to the right of what rises, if something does, and the nodes in use.
@@ -59,16 +73,7 @@ pub fn commit_below(table: &mut [Node], top: Top, path: &[Waypoint], plan: &Plan
     let Line { entry, follower } = plan.lines[h];
     let n = node_at(table, top.root);
     let root = n.children[place];
-    let below = commit_below(
-        table,
-        Top {
-            levels,
-            root,
-            ..top
-        },
-        path,
-        plan,
-    );
+    let below = commit_below(table, top.under(root), path, plan);
     let Some(right) = below.right else {
         return below;
     };

@@ -25,11 +25,11 @@ pub struct Views {
     steps: Vec<View>,
 }
 
-impl Views {
-    /// The layers to put on, in this order.
-    pub fn new(steps: Vec<View>) -> Views
-        ensures { result.steps ≡ steps }
-    {
+/// The layers to put on, in this order.
+impl From<Vec<View>> for Views {
+    ghost from_gives = { λ steps v. v.steps ≡ steps };
+
+    fn from(steps: Vec<View>) -> Views {
         Views { steps }
     }
 }
@@ -42,7 +42,7 @@ pub fn viewed_by<S: ReadingStore>(steps: Vec<View>, below: S) -> Viewed<S>
     ensures made { (result.map.steps ≡ steps) × (result.below ≡ below) }
     ensures nested { shown (all_shown result.map.steps.items) (S.ReadingStore.meaning result.below) ≡ nested steps.items (S.ReadingStore.meaning below) }
 {
-    Layer::new(Views::new(steps), below)
+    Layer::new(Views::from(steps), below)
 }
 
 impl KeyMap for View {
@@ -89,7 +89,7 @@ impl WayBack for Views {
     ghost undone = { λ v. all_hide v.steps.items };
 
     fn hide(&self, key: &mut [u8]) {
-        // Kept: `rev` reads no plainer, and an edit that goes first to last then fails for its names, not for what it means.
+        // Kept: with `rev`, a body that goes first to last is refused for its names, not for what it does.
         let mut left = self.steps.as_slice();
         while let Some((last, before)) = left.split_last() {
             last.hide(key);

@@ -18,6 +18,7 @@ pub struct Day {
 const WIDTH: usize = 4;
 
 /// The day of a number.
+// Kept: impls of its own type, as for a class.
 impl From<i32> for Day {
     ghost from_gives = { λ number day. day.number ≡ number };
 

@@ -20,6 +20,7 @@ const LAST: u16 = 1439;
 const WIDTH: usize = 2;
 
 /// The minute of a number; refused above 1439.
+// Kept: impls of its own type, as for a class.
 impl TryFrom<u16> for Minute {
     type Error = Refusal;
 

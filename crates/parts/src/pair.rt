@@ -12,7 +12,8 @@ pub struct Pair<A, B> {
     pub second: B,
 }
 
-// What a pair wider than a key tells. Kept: a width that every part tells in one way, by the trait's rule.
+// What a pair wider than a key tells.
+// Kept: a width and not an `Option`, since the trait promises one of every part, 33 where its size is more than 32.
 const TOO_WIDE: usize = WIDEST + 1;
 
 impl<A: Part, B: Part> Part for Pair<A, B> {

@@ -7,7 +7,7 @@ use keys::key::bit;
 use keys::partial::PartialKey;
 use std::cmp::Ordering;
 
-// Kept: the number means another thing in each variant, so an `Ordering` beside it would read no plainer.
+// Kept: no value is left out and none is a failure, so neither an `Option` nor an `Ordering` says all three.
 /// What is known of the search key against a key: greater or less, with their offset, or open, with the place up to which
 /// the two agree.
 #[derive(Clone, Copy)]

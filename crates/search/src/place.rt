@@ -72,7 +72,7 @@ fn place_below(entries: &[Entry], candidate: usize, offset: u16) -> usize
 }
 
 /// Where the search key stands, by its comparison with the candidate's key.
-// Kept: `high` and the candidate under it come from one look and go here alone; a type of both would need the node to say so.
+// Kept: that the candidate lies under `high`, and `high` within the node, is a fact of the node; a type of the two alone cannot say it.
 pub fn settle(entries: &[Entry], high: usize, candidate: usize, comparison: Comparison) -> Placement
     requires { (candidate < high) × (high ≤ length entries.now) }
     ensures placed { result ≡ settled (parts_of entries.now) high candidate comparison }

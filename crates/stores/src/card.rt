@@ -61,7 +61,7 @@ impl Card {
     }
 }
 
-// Kept: each method says what it means by the definition itself, beside what the trait says of it.
+// Kept: what fetches and appends do stands by the definition too, beside the trait, so that a weaker `meaning` is refused.
 impl ReadingStore for Card {
     ghost meaning = { λ c. card_of c.width c.bytes.items c.count c.tally };
 

@@ -33,7 +33,7 @@ impl Plan {
     }
 }
 
-// Kept: each method says what it means by the definition itself, beside what the trait says of it.
+// Kept: each method has a clause of its own by the definition, beside the trait's, so that a weaker `meaning` is refused.
 impl ReadingStore for Plan {
     ghost meaning = { λ p. plan_of p.classes p.tally };
 

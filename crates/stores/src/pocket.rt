@@ -55,7 +55,7 @@ impl Pocket {
         if width == 0 || width > WIDEST {
             return Err(PocketError::Refused(Refusal::KeyWidth));
         }
-        let rows = vec![in heap; Row::new(); usize::from(ROWS)]?;
+        let rows = vec![in heap; Row::default(); usize::from(ROWS)]?;
         Ok(Pocket {
             width,
             count: 0,

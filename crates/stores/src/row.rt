@@ -10,14 +10,16 @@ pub(crate) struct Row {
     ghost each: { (i : ℕ) → slice_index bytes i < 256 },
 }
 
-impl Row {
-    /// A row with no key yet.
-    pub(crate) fn new() -> Row
-        ensures { result.bytes ≡ replicate 32 0 }
-    {
+/// A row with no key yet.
+impl Default for Row {
+    ghost is_default = { λ row. row.bytes ≡ replicate 32 0 };
+
+    fn default() -> Row {
         Row { bytes: [0; WIDEST] }
     }
+}
 
+impl Row {
     /// Puts the key in front; the bytes after it stay.
     pub(crate) fn write(&mut self, key: &[u8])
         requires { length key.now ≤ 32 }

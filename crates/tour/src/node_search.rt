@@ -9,6 +9,7 @@ use search::sweep::{Swept, sweep};
 use std::io;
 
 // Keys of one byte, in order, of which a node keeps two bits each.
+// Kept apart from the entries: they stand for the store, and a node has no keys.
 const KEYS: [[u8; 1]; 5] = [[0x20], [0x24], [0x30], [0x60], [0xA0]];
 
 const KEPT: u8 = 2;

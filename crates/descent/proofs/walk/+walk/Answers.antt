@@ -31,7 +31,7 @@ walk_after-loop-entry-preserved t c =
     let k = turn_at a c.loop-entry.yielded c.into_iter-entry-iterator.result c.loop-entry.entry-iterator c.next.new.self c.next.result c.from-first.ensures c.from-end.ensures (search rules) (search rules) c.loop-entry.yielded_by c.next.ensures.steps _ c.in-Some.is in
     let one_more : c.args.place + length (c.loop-entry.yielded ++ ((c.in-Some.entry, c.in-Some.field-0-1) ∷ [])) ≡ c.args.place + length c.loop-entry.yielded + 1 = omega (arith, length_push c.loop-entry.yielded (c.in-Some.entry, c.in-Some.field-0-1)) in
     rw (one_more, sym c.node_at-n.ensures.value) (walk_more a c.args.place (c.args.place + length c.loop-entry.yielded) (omega arith) k.within
-    (rw (sym c.node_at-n.ensures.value) at c.loop-entry.invariant) (rw k.entry at c.put_record-walked.ensures) (rw k.kid at c.walk_below-walked.ensures))
+    (rw (sym c.node_at-n.ensures.value) at c.loop-entry.invariant) (rw k.entry at c.put_record-walked.ensures) (rw k.kid at (rw c.under.ensures at c.walk_below-walked.ensures)))
 
 pub walk_after-returns : goal.walk_after-returns
 walk_after-returns t c =
@@ -43,14 +43,14 @@ pub walk_after-walk_below-walked-requires : goal.walk_after-walk_below-walked-re
 walk_after-walk_below-walked-requires t c =
     let a = at_down c.requires.readable c.requires.some c.node_at-n.ensures.value in
     let k = turn_at a c.loop-entry.yielded c.into_iter-entry-iterator.result c.loop-entry.entry-iterator c.next.new.self c.next.result c.from-first.ensures c.from-end.ensures (search rules) (search rules) c.loop-entry.yielded_by c.next.ensures.steps _ c.in-Some.is in
-    (omega (arith, c.decreases), rw k.kid (at_kid a _ (omega (arith, k.within))))
+    rw c.under.ensures (omega (arith, c.decreases), rw k.kid (at_kid a _ (omega (arith, k.within))))
 
 pub walk_below-walk_below-walked-requires : goal.walk_below-walk_below-walked-requires
 walk_below-walk_below-walked-requires t c =
     let pos : 0 < c.args.top.levels = omega arith in
-    (omega (arith, c.decreases), at_kid (at_down c.requires pos c.node_at.ensures.value) 0 (omega arith))
+    rw c.under.ensures (omega (arith, c.decreases), at_kid (at_down c.requires pos c.node_at.ensures.value) 0 (omega arith))
 
 pub walk_below-returns : goal.walk_below-returns
 walk_below-returns t c =
     let pos : 0 < c.args.top.levels = omega arith in
-    walk_whole (at_down c.requires pos c.node_at.ensures.value) pos c.walk_below-walked.ensures c.walk_after.ensures
+    walk_whole (at_down c.requires pos c.node_at.ensures.value) pos (rw c.under.ensures at c.walk_below-walked.ensures) c.walk_after.ensures

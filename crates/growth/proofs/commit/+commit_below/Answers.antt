@@ -34,10 +34,10 @@ bounds-n-place t c = omega (arith, at_place (stepped t (goal.at.bounds-n-place t
 pub commit_below-below-requires : goal.commit_below-below-requires
 commit_below-below-requires t c =
     let s = stepped t (goal.at.commit_below-below-requires t c).After-node_at-n in
-    (omega (arith, c.decreases), (omega (arith, c.requires.deep), (omega (arith, c.requires.placed), (at_ready s, at_room s))))
+    rw c.under.ensures (omega (arith, c.decreases), (omega (arith, c.requires.deep), (omega (arith, c.requires.placed), (at_ready s, at_room s))))
 
 pub returns-in_default : goal.returns-in_default
-returns-in_default t c = at_stays (stepped t (goal.at.returns-in_default t c).After-node_at-n) c.commit_below-below.ensures c.in_default.is
+returns-in_default t c = at_stays (stepped t (goal.at.returns-in_default t c).After-node_at-n) (rw c.under.ensures at c.commit_below-below.ensures) c.in_default.is
 
 pub put_in-requires-clause-place : goal.put_in-requires-clause-place
 put_in-requires-clause-place t c = omega (arith, at_place (stepped t (goal.at.put_in-requires-clause-place t c).After-node_at-n), c.renewed-m.ensures.count)
@@ -47,20 +47,20 @@ split_in-halves-requires-clause-place t c = omega (arith, at_place (stepped t (g
 
 pub returns-then-n-lt-FULL : goal.returns-then-n-lt-FULL
 returns-then-n-lt-FULL t c =
-    at_put (stepped t (goal.at.returns-then-n-lt-FULL t c).After-node_at-n) c.commit_below-below.ensures c.in-Some.is c.renewed-m.result c.renewed-m.ensures.entries c.renewed-m.ensures.links
+    at_put (stepped t (goal.at.returns-then-n-lt-FULL t c).After-node_at-n) (rw c.under.ensures at c.commit_below-below.ensures) c.in-Some.is c.renewed-m.result c.renewed-m.ensures.entries c.renewed-m.ensures.links
     c.if-n-lt-FULL.true _ _ c.put_in.ensures (rw c.from.ensures refl)
 
 pub bounds-table-from-3 : goal.bounds-table-from-3
 bounds-table-from-3 t c =
-    let fresh = at_fresh (stepped t (goal.at.bounds-table-from-3 t c).After-node_at-n) c.commit_below-below.ensures c.in-Some.is c.if-n-lt-FULL.false in
+    let fresh = at_fresh (stepped t (goal.at.bounds-table-from-3 t c).After-node_at-n) (rw c.under.ensures at c.commit_below-below.ensures) c.in-Some.is c.if-n-lt-FULL.false in
     omega (arith, fresh, c.from-3.ensures, length-set c.commit_below-below.new.table c.from-2.result c.split_in-halves.result.left)
 
 pub overflow_add-result : goal.overflow_add-result
 overflow_add-result t c =
-    let fresh = at_fresh (stepped t (goal.at.overflow_add-result t c).After-node_at-n) c.commit_below-below.ensures c.in-Some.is c.if-n-lt-FULL.false in
+    let fresh = at_fresh (stepped t (goal.at.overflow_add-result t c).After-node_at-n) (rw c.under.ensures at c.commit_below-below.ensures) c.in-Some.is c.if-n-lt-FULL.false in
     omega (arith, fresh, c.commit_below-below.ensures.long, c.requires.ready.few)
 
 pub returns : goal.returns
 returns t c =
-    at_split (stepped t (goal.at.returns t c).After-node_at-n) c.commit_below-below.ensures c.in-Some.is c.renewed-m.result c.renewed-m.ensures.entries c.renewed-m.ensures.links
+    at_split (stepped t (goal.at.returns t c).After-node_at-n) (rw c.under.ensures at c.commit_below-below.ensures) c.in-Some.is c.renewed-m.result c.renewed-m.ensures.entries c.renewed-m.ensures.links
     c.if-n-lt-FULL.false _ _ _ c.split_in-halves.ensures.left c.split_in-halves.ensures.right (rw (c.from-2.ensures, c.from-3.ensures) refl)

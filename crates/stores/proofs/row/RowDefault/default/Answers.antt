@@ -1,6 +1,6 @@
 use Rattle.std.proofs.Common.{ℕ, ◌<◌, get_or, replicate, refl, arith}
 use Rattle.std.proofs.lemmas.Grind.{common_steps}
-use Rattle.stores.proofs.row.Row.new.Goals as goal
+use Rattle.stores.proofs.row.RowDefault.default.Goals as goal
 
 zeros : (n i : ℕ) → get_or (replicate n 0) i 0 < 256
 zeros n i = grind (arith, common_steps)
