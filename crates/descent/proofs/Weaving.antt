@@ -75,7 +75,7 @@ module _ {table : List Node} {used l at : ℕ} {n : Node} (a : At table used l a
   pub at_clean : Packed (get_or table at no_node)
   at_clean = a.reads.packs at at_within
 
-  at_long : n.count ≡ length (held n)
+  pub at_long : n.count ≡ length (held n)
   at_long = subst (λ (z : Node). z.count ≡ length (held z)) (sym a.is) (ap (λ (z : Node). z.count) at_clean.1)
 
   at_links : length (links n) ≡ length (held n) + 1

@@ -1,9 +1,9 @@
-ghost use Rattle.std.specs.Prelude.{ℕ, ◌-◌, ◌≤◌, [], ◌∷◌, length, Option, slice_index_or};
+ghost use Rattle.std.specs.Prelude.{◌≡◌, ℕ, ◌-◌, ◌≤◌, [], ◌∷◌, length, Option, slice_index_or};
 ghost use Rattle.descent.specs.Reading.{Adds, DescentOf, Filled, Readable, records_after};
 ghost use Rattle.growth.specs.Commits.{tree_at};
 ghost use Rattle.keys.specs.Digits.{Digits};
 ghost use Rattle.keys.specs.declared.comparison.Comparison.{Comparison};
-ghost use Rattle.nodes.specs.Tables.{held, no_node};
+ghost use Rattle.nodes.specs.Tables.{no_node};
 ghost use Rattle.nodes.specs.Trees.{records};
 ghost use Rattle.search.specs.Walk.{rest};
 
@@ -45,20 +45,29 @@ fn walk_below(table: &[Node], top: Top, list: &mut [u16], so_far: Walked) -> Wal
     if top.levels == 0 || so_far.more {
         return so_far;
     }
-    let root = node_at(table, top.root).children[0];
-    let walked = walk_below(table, top.under(root), list, so_far);
-    walk_after(table, top, 0, list, walked)
+    let n = node_at(table, top.root);
+    let walked = walk_below(table, top.under(n.children[0]), list, so_far);
+    walk_after(table, top, &n, 0, list, walked)
 }
 
-// Adds the records after a place of a tree's root.
+// Adds the records after a place of a tree's root, which is this node: whoever has it at hand lends it, so that none is copied twice.
 #[cycle(walk)]
-fn walk_after(table: &[Node], top: Top, place: u8, list: &mut [u16], so_far: Walked) -> Walked
+#[inline(always)]
+fn walk_after(
+    table: &[Node],
+    top: Top,
+    n: &Node,
+    place: u8,
+    list: &mut [u16],
+    so_far: Walked,
+) -> Walked
     requires some { 1 ≤ top.levels }
     requires readable { Readable table.now top.used top.levels top.root }
-    requires within { place ≤ length (held (slice_index_or table.now top.root no_node)) }
+    requires root { n.now ≡ slice_index_or table.now top.root no_node }
+    requires few { n.now.count ≤ 7 }
+    requires within { place ≤ n.now.count }
     ensures { Adds (records_after table.now (top.levels - 1) top.root place) list.old so_far list.new result }
 {
-    let n = node_at(table, top.root);
     let (first, end) = (usize::from(place), usize::from(n.count));
     let entries = &n.entries[first..end];
     let children = &n.children[first + 1..=end];
@@ -91,7 +100,8 @@ pub fn walk(table: &[Node], top: Top, descent: &Descent, list: &mut [u16]) -> Wa
             root: node,
             ..top
         };
-        walked = walk_after(table, part, place, list, walked);
+        let n = node_at(table, node);
+        walked = walk_after(table, part, &n, place, list, walked);
     }
     walked
 }

@@ -2,7 +2,7 @@ ghost use Rattle.std.specs.Prelude.{◌≡◌, ◌+◌, ◌<◌, ◌≤◌, leng
 ghost use Rattle.nodes.specs.Tables.{held, links, packed};
 ghost use Rattle.std.specs.List.{insert};
 
-use crate::shift::shift_in;
+use crate::shift::{copy_part, shift_in};
 use nodes::node::{Entry, Node};
 use nodes::table::NO_ENTRY;
 
@@ -23,8 +23,8 @@ pub(crate) fn node_of(entries: &[Entry], links: &[u16]) -> Node
 {
     let mut held = [NO_ENTRY; 7];
     let mut children = [0; 8];
-    held[..entries.len()].copy_from_slice(entries);
-    children[..links.len()].copy_from_slice(links);
+    copy_part(entries, 0, entries.len(), NO_ENTRY, &mut held);
+    copy_part(links, 0, links.len(), 0, &mut children);
     Node {
         count: entries.len() as u8,
         entries: held,
@@ -41,6 +41,7 @@ struct Overfull {
 
 impl Overfull {
     // Kept: a place, an entry and a link are put together at each call, and nothing carries them on.
+    #[inline(always)]
     fn new(n: &Node, i: usize, e: Entry, right: u16) -> Overfull
         requires { i ≤ 7 }
         ensures entries { result.entries ≡ insert n.now.entries i e }

@@ -1,11 +1,13 @@
 ghost use Rattle.std.specs.Prelude.{◌≡◌, ℕ, List};
 ghost use Rattle.store.specs.Meaning.{Appended};
+ghost use Rattle.layers.specs.LayerLaw.{shown_lawful};
 ghost use Rattle.layers.specs.Layers.{shown};
 ghost use Rattle.layers.specs.WaysBack.{Hides};
 
 use crate::layer::{KeyMap, Layer};
 use keys::key::WIDEST;
 use store::filing::FilingStore;
+use store::reading::ReadingStore;
 use store::refusal::Refusal;
 
 /// A way to show a key that has a way back, by which a layer files.
@@ -35,5 +37,61 @@ impl<M: WayBack, S: FilingStore> Layer<M, S> {
         part.copy_from_slice(key);
         self.map.hide(part);
         self.below.append(part)
+    }
+}
+
+/// A layer as a filing store over a filing one, so that layers that file stand over one another. A type of its own, since a
+/// layer's own trait would be seen outside, and an append is a call of a use.
+#[derive(Drop)]
+pub(crate) struct FilingLayer<M, S> {
+    layer: Layer<M, S>,
+}
+
+impl<M, S> From<Layer<M, S>> for FilingLayer<M, S> {
+    ghost from_gives = { λ layer filing. filing.layer ≡ layer };
+
+    fn from(layer: Layer<M, S>) -> FilingLayer<M, S> {
+        FilingLayer { layer }
+    }
+}
+
+impl<M, S> FilingLayer<M, S> {
+    /// The layer again, which only reads.
+    pub(crate) fn into_layer(self) -> Layer<M, S>
+        ensures { result ≡ self.layer }
+    {
+        self.layer
+    }
+}
+
+impl<M: WayBack, S: FilingStore> ReadingStore for FilingLayer<M, S> {
+    ghost meaning = { λ f. shown (M.KeyMap.shows f.layer.map) (S.ReadingStore.meaning f.layer.below) };
+
+    ghost lawful = { λ f. shown_lawful (M.KeyMap.shows f.layer.map) (M.KeyMap.keeps f.layer.map) (S.ReadingStore.meaning f.layer.below) (S.ReadingStore.lawful f.layer.below) };
+
+    fn width(&self) -> usize {
+        self.layer.width()
+    }
+
+    fn held(&self) -> u16 {
+        self.layer.held()
+    }
+
+    fn capacity(&self) -> u16 {
+        self.layer.capacity()
+    }
+
+    fn tally(&self) -> u32 {
+        self.layer.tally()
+    }
+
+    fn fetch(&mut self, number: u16, buffer: &mut [u8]) -> Result<(), Refusal> {
+        self.layer.fetch(number, buffer)
+    }
+}
+
+impl<M: WayBack, S: FilingStore> FilingStore for FilingLayer<M, S> {
+    fn append(&mut self, key: &[u8]) -> Result<u16, Refusal> {
+        self.layer.append(key)
     }
 }

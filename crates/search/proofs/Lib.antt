@@ -7,7 +7,6 @@ pub mod Turns
 pub mod Reach
 pub mod Sides
 pub mod Scans
-pub mod Chained
 pub mod Ladder
 pub mod Weaves
 pub mod Rising

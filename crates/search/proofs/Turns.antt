@@ -1,11 +1,11 @@
 -- What one turn of each loop does to the definition that it computes.
-use Rattle.std.proofs.Common.{◌≡◌, ℕ, zero, suc, ◌+◌, ◌-◌, ◌/◌, ◌%◌, ◌^◌, ◌<◌, ◌≤◌, List, [], ◌∷◌, drop, length, slice_index, sym, refl, ap, ◌∙◌, add-one, arith, drop-cons, pow_mono}
+use Rattle.std.proofs.Common.{◌≡◌, ℕ, zero, suc, ◌+◌, ◌-◌, ◌/◌, ◌%◌, ◌^◌, ◌<◌, ◌≤◌, Option, Some, None, true, false, List, [], ◌∷◌, drop, length, slice_index, sym, refl, ap, ◌∙◌, add-one, arith, drop-cons, pow_mono}
 use Rattle.std.proofs.Math.ListN.{drop_of_length-le}
 use native.Mathlib.Nat.{div-eq_of_lt}
-use Rattle.std.proofs.lemmas.Bool.{cond-false, cond-true, le-ltb, lt-ltb}
+use Rattle.std.proofs.lemmas.Bool.{cond-false, cond-true, le-leb, le-ltb, lt-leb, lt-ltb}
 use Rattle.keys.specs.Digits.{Digits}
 use Rattle.search.specs.Parts.{Parts, low_bits}
-use Rattle.search.specs.Placing.{candidate_of, step_after}
+use Rattle.search.specs.Placing.{candidate, candidate_of, looked_at, step_after}
 use Rattle.search.specs.Sweeping.{against, step, sweep}
 use Rattle.search.specs.declared.order.Order.{Order}
 use Rattle.search.specs.declared.order.Order.TheVariants.{Greater, Less, Open}
@@ -67,6 +67,22 @@ module _ (s : Digits) (p : Parts) (n i low off : ℕ) (r : Order) (lt : i < n) w
 
 pub sweep_end : (s : Digits) (p : Parts) (n i low off : ℕ) (r : Order) → i ≡ n → sweep s p (n - i) i low off r ≡ record { low = low; offset = off; high = n }
 sweep_end s p n i low off r h = let a : n - i ≡ 0 = omega arith in rw (a, h)
+
+-- a turn of the candidate's loop
+module _ (s : Digits) (p : Parts) (n i c : ℕ) (g : Option ℕ) (lt : i < n) where
+  pub candidate_taken : looked_at g (p.offset i) ≡ true → p.lead i ≤ s (p.offset i) →
+      candidate s p (n - i) i c g ≡ candidate s p (n - (i + 1)) (i + 1) i None
+  candidate_taken z h = let a : n - i ≡ suc (n - (i + 1)) = omega arith in
+      rw (a, add-one) (cond-true _ _ _ z ∙ cond-true _ _ _ (le-leb (p.lead i) (s (p.offset i)) h))
+
+  pub candidate_passed : looked_at g (p.offset i) ≡ true → s (p.offset i) < p.lead i →
+      candidate s p (n - i) i c g ≡ candidate s p (n - (i + 1)) (i + 1) c (Some (p.offset i))
+  candidate_passed z h = let a : n - i ≡ suc (n - (i + 1)) = omega arith in
+      rw (a, add-one) (cond-true _ _ _ z ∙ cond-false _ _ _ (lt-leb (p.lead i) (s (p.offset i)) h))
+
+  pub candidate_skipped : looked_at g (p.offset i) ≡ false →
+      candidate s p (n - i) i c g ≡ candidate s p (n - (i + 1)) (i + 1) c g
+  candidate_skipped z = let a : n - i ≡ suc (n - (i + 1)) = omega arith in rw (a, add-one) (cond-false _ _ _ z)
 
 -- what a sweep leads to
 pub looks_known : (s : Digits) (p : Parts) (w : Swept) → w.high ≤ w.low → Known w.low w.offset ≡ step_after s p w

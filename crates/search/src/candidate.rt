@@ -24,11 +24,12 @@ pub fn candidate(entries: &[Entry], key: &[u8], low: usize, high: usize) -> usiz
 {
     let mut chosen = low;
     let mut passed = None;
-    for (i, entry) in entries[..high].iter().enumerate().skip(low + 1) {
+    let first = low + 1;
+    for (i, entry) in entries[first..high].iter().enumerate() {
         let offset = entry.partial.offset;
         if is_looked_at(passed, offset) {
             if bit(key, usize::from(offset)) >= LEAD {
-                chosen = i;
+                chosen = first + i;
                 passed = None;
             } else {
                 passed = Some(offset);

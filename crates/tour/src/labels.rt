@@ -7,6 +7,15 @@ use parts::minute::Minute;
 use parts::tariff::{TARIFF_WIDTH, tariff_key};
 use std::io;
 
+// A label's key, and the values that it was made of.
+#[derive(Clone, Copy, PartialEq, Eq, PartialOrd, Ord)]
+struct Label {
+    key: [u8; TARIFF_WIDTH],
+    class: u8,
+    day: i32,
+    minute: u16,
+}
+
 // Days around zero and at both ends.
 const LABELS: [(u8, i32, u16); 7] = [
     (2, 0, 360),
@@ -18,25 +27,26 @@ const LABELS: [(u8, i32, u16); 7] = [
     (255, i32::MIN, 0),
 ];
 
-// The labels' keys, each told. A label whose minute is none is left out, and that is told.
-fn told_keys(rt: &(impl Print + AllocGlobal)) -> io::Result<Vec<[u8; TARIFF_WIDTH]>> {
-    let mut keys = Vec::new(rt.alloc());
+// The labels with their keys, all before one is told. One whose minute is none is left out, and that is told.
+fn labels(rt: &(impl Print + AllocGlobal)) -> io::Result<Vec<Label>> {
+    let mut labels = Vec::new(rt.alloc());
     for (class, day, minute) in LABELS {
         match Minute::try_from(minute) {
             Ok(moment) => {
                 let key = tariff_key(Class::from(class), Day::from(day), moment);
-                println!(rt;
-                    "  class {class}, day {day}, minute {minute}: {}",
-                    Hex(&key)
-                )?;
-                keys.push(key)?;
+                labels.push(Label {
+                    key,
+                    class,
+                    day,
+                    minute,
+                })?;
             }
             Err(refusal) => {
                 println!(rt; "  minute {minute}: refused on ground {}", refusal.number())?;
             }
         }
     }
-    Ok(keys)
+    Ok(labels)
 }
 
 // A key after the one before it: where they part, and what a node would keep.
@@ -50,13 +60,20 @@ fn print_parting(rt: &impl Print, key: &[u8], base: Option<&[u8]>) -> io::Result
 /// Labels turned into keys, then sorted.
 pub fn print_labels(rt: &(impl Print + AllocGlobal)) -> io::Result<()> {
     println!(rt; "Labels and their keys:")?;
-    let mut keys = told_keys(rt)?;
-    keys.sort()?;
+    let mut labels = labels(rt)?;
+    for label in &labels {
+        let (class, day, minute) = (label.class, label.day, label.minute);
+        println!(rt;
+            "  class {class}, day {day}, minute {minute}: {}",
+            Hex(&label.key)
+        )?;
+    }
+    labels.sort()?;
     println!(rt; "The keys sorted, each against the one before it:")?;
     let mut base: Option<&[u8]> = None;
-    for key in &keys {
-        print_parting(rt, key, base)?;
-        base = Some(key);
+    for label in &labels {
+        print_parting(rt, &label.key, base)?;
+        base = Some(&label.key);
     }
     Ok(())
 }

@@ -1,18 +1,13 @@
 use Rattle.std.proofs.Common.{◌≡◌, ℕ, ◌<◌, ◌+◌, ◌-◌, List, [], ◌∷◌, ◌++◌, length, get_or, sym, refl, ap, ◌∙◌, subst, rules, arith}
 use Rattle.std.proofs.lemmas.List.{length_push}
 use Rattle.descent.proofs.Filling.{add_none}
-use Rattle.descent.proofs.Weaving.{at_clean, at_down, at_kid, at_within, part, part_all, part_none, turn_at, turns_all, walk_more, walk_whole}
+use Rattle.descent.proofs.Weaving.{at_clean, at_down, at_kid, at_long, at_within, part, part_all, part_none, turn_at, turns_all, walk_more, walk_whole}
 use Rattle.descent.specs.Reading.{Adds}
 use Rattle.nodes.specs.Tables.{no_node}
 use Rattle.descent.proofs.walk.+walk.Goals as goal
 
-pub walk_after-node_at-n-requires : goal.walk_after-node_at-n-requires
-walk_after-node_at-n-requires t c =
-    let a = at_down c.requires.readable c.requires.some refl in
-    record { within = omega (arith, at_within a, c.requires.readable.fits); packs = at_clean a }
-
-pub walk_below-node_at-requires : goal.walk_below-node_at-requires
-walk_below-node_at-requires t c =
+pub walk_below-node_at-n-requires : goal.walk_below-node_at-n-requires
+walk_below-node_at-n-requires t c =
     let pos : 0 < c.args.top.levels = omega arith in
     let a = at_down c.requires pos refl in
     record { within = omega (arith, at_within a, c.requires.fits); packs = at_clean a }
@@ -27,30 +22,30 @@ walk_after-loop-entry-init t c =
 
 pub walk_after-loop-entry-preserved : goal.walk_after-loop-entry-preserved
 walk_after-loop-entry-preserved t c =
-    let a = at_down c.requires.readable c.requires.some c.node_at-n.ensures.value in
+    let a = at_down c.requires.readable c.requires.some c.requires.root in
     let k = turn_at a c.loop-entry.yielded c.into_iter-entry-iterator.result c.loop-entry.entry-iterator c.next.new.self c.next.result c.from-first.ensures c.from-end.ensures (search rules) (search rules) c.loop-entry.yielded_by c.next.ensures.steps _ c.in-Some.is in
     let one_more : c.args.place + length (c.loop-entry.yielded ++ ((c.in-Some.entry, c.in-Some.field-0-1) ∷ [])) ≡ c.args.place + length c.loop-entry.yielded + 1 = omega (arith, length_push c.loop-entry.yielded (c.in-Some.entry, c.in-Some.field-0-1)) in
-    rw (one_more, sym c.node_at-n.ensures.value) (walk_more a c.args.place (c.args.place + length c.loop-entry.yielded) (omega arith) k.within
-    (rw (sym c.node_at-n.ensures.value) at c.loop-entry.invariant) (rw k.entry at c.put_record-walked.ensures) (rw k.kid at (rw c.under.ensures at c.walk_below-walked.ensures)))
+    rw (one_more, sym c.requires.root) (walk_more a c.args.place (c.args.place + length c.loop-entry.yielded) (omega arith) k.within
+    (rw (sym c.requires.root) at c.loop-entry.invariant) (rw k.entry at c.put_record-walked.ensures) (rw k.kid at (rw c.under.ensures at c.walk_below-walked.ensures)))
 
 pub walk_after-returns : goal.walk_after-returns
 walk_after-returns t c =
-    let a = at_down c.requires.readable c.requires.some c.node_at-n.ensures.value in
-    let all = turns_all a c.loop-entry.yielded c.into_iter-entry-iterator.result c.loop-entry.entry-iterator c.next.new.self c.next.result c.from-first.ensures c.from-end.ensures (search rules) (search rules) c.loop-entry.yielded_by c.next.ensures.steps c.requires.within c.in-None.is in
-    rw (sym (part_all a c.args.place _ all), c.node_at-n.ensures.value) c.loop-entry.invariant
+    let a = at_down c.requires.readable c.requires.some c.requires.root in
+    let all = turns_all a c.loop-entry.yielded c.into_iter-entry-iterator.result c.loop-entry.entry-iterator c.next.new.self c.next.result c.from-first.ensures c.from-end.ensures (search rules) (search rules) c.loop-entry.yielded_by c.next.ensures.steps (rw (sym c.requires.root) (omega (arith, c.requires.within, at_long a))) c.in-None.is in
+    rw (sym (part_all a c.args.place _ all), c.requires.root) c.loop-entry.invariant
 
 pub walk_after-walk_below-walked-requires : goal.walk_after-walk_below-walked-requires
 walk_after-walk_below-walked-requires t c =
-    let a = at_down c.requires.readable c.requires.some c.node_at-n.ensures.value in
+    let a = at_down c.requires.readable c.requires.some c.requires.root in
     let k = turn_at a c.loop-entry.yielded c.into_iter-entry-iterator.result c.loop-entry.entry-iterator c.next.new.self c.next.result c.from-first.ensures c.from-end.ensures (search rules) (search rules) c.loop-entry.yielded_by c.next.ensures.steps _ c.in-Some.is in
     rw c.under.ensures (omega (arith, c.decreases), rw k.kid (at_kid a _ (omega (arith, k.within))))
 
 pub walk_below-walk_below-walked-requires : goal.walk_below-walk_below-walked-requires
 walk_below-walk_below-walked-requires t c =
     let pos : 0 < c.args.top.levels = omega arith in
-    rw c.under.ensures (omega (arith, c.decreases), at_kid (at_down c.requires pos c.node_at.ensures.value) 0 (omega arith))
+    rw c.under.ensures (omega (arith, c.decreases), at_kid (at_down c.requires pos c.node_at-n.ensures.value) 0 (omega arith))
 
 pub walk_below-returns : goal.walk_below-returns
 walk_below-returns t c =
     let pos : 0 < c.args.top.levels = omega arith in
-    walk_whole (at_down c.requires pos c.node_at.ensures.value) pos (rw c.under.ensures at c.walk_below-walked.ensures) c.walk_after.ensures
+    walk_whole (at_down c.requires pos c.node_at-n.ensures.value) pos (rw c.under.ensures at c.walk_below-walked.ensures) c.walk_after.ensures

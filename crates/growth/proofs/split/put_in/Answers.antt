@@ -1,4 +1,5 @@
-use Rattle.std.proofs.Common.{◌+◌, ◌∙◌, refl, arith}
+use Rattle.std.proofs.Common.{◌+◌, arith}
+use Rattle.std.proofs.lemmas.Grind.{common_steps}
 use Rattle.growth.proofs.Shifting.{take_inserted}
 use Rattle.growth.proofs.split.put_in.Goals as goal
 
@@ -8,4 +9,4 @@ returns c =
     let w = c.new-wide.ensures in
     let a = take_inserted c.args.i n.count n.entries c.args.e c.requires.place (omega (arith, w.long)) in
     let b = take_inserted (c.args.i + 1) (n.count + 1) n.children c.args.right (omega (arith, c.requires.place)) (omega (arith, w.long)) in
-    c.node_of.ensures ∙ rw (w.entries, w.links, c.from-count.ensures, a, b) refl
+    grind (arith, common_steps)
